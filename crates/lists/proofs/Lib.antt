@@ -1,0 +1,4 @@
+pub mod Branches
+pub mod Tables
+pub mod Rules
+pub mod Lists
