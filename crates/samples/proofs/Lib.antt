@@ -1,0 +1,12 @@
+pub mod Machine
+pub mod Places
+pub mod Signed
+pub mod Rounds
+pub mod Rescaled
+pub mod Narrowing
+pub mod Formats
+pub mod Nearest
+pub mod Converts
+pub mod Bits
+pub mod Moves
+pub mod Examples

@@ -1,0 +1,213 @@
+-- Half a step less one and the parity added, the low bits dropped, no more than the highest: the definition's `narrowed`, on signed numbers.
+use mathlib.Core.Path.{_≡_, refl, sym, ap, _∙_}
+use mathlib.Core.Bool.{true, false}
+use Prim.Native.Nat.{ℕ, suc, _+_, _-_, _*_, _/_, _%_, _^_, min, _≤_, _<_}
+use native.Mathlib.Omega.{arith}
+use native.Mathlib.Decide.{decLt}
+use native.Mathlib.Nat.{div-add-mod', mod-lt, add-mul}
+use lib.Arith.{digits-div}
+use lib.Pow.{pow-pos, pow-add, pow-mono, shr-le}
+use lib.IntN.{ℤ, pos, natAbs, subℕ, _+ℤ_, _-ℤ_}
+use lib.Signed.{mag, shrZ, ltZ}
+use borrow.Author.Tests.{lt-ltb, le-ltb, ltb-true, ltb-false}
+use mir.Syntax.{w32, w64}
+use mir.Val.{SFits}
+use mir.Facts.{toZ-ofZ}
+use Rattle.samples.specs.Convert.{rank, roundedOf, narrowed}
+use Rattle.samples.proofs.Machine.{Long, Int, back, wider}
+use Rattle.samples.proofs.Places.{doubles, sub-le, sub-rank, rank-lt, sub-mag, plus, pos-minus}
+use Rattle.samples.proofs.Signed.{shifted, parity, less-is}
+
+-- ---- on places, over half a step h
+
+added : (q t h : ℕ) → t < h + h → roundedOf q t (h + h) ≡ (q * (h + h) + t + (h - 1) + q % 2) / (h + h)
+added q t h l = elim (decLt (t * 2) (h + h)) [
+  | yes a ↦
+      (let g : t + (h - 1) + q % 2 < h + h = omega arith in
+      rw (lt-ltb (t * 2) (h + h) a) (sym (ap (λ (x : ℕ). x / (h + h)) (omega arith) ∙ digits-div q g)))
+  | no a ↦ elim (decLt (h + h) (t * 2)) [
+    | yes b ↦
+        (let r = t + (h - 1) + q % 2 - (h + h) in
+        let g : r < h + h = omega arith in
+        let e : q * (h + h) + t + (h - 1) + q % 2 ≡ (q + 1) * (h + h) + r = omega (arith, add-mul q 1 (h + h)) in
+        rw (le-ltb (t * 2) (h + h) (omega arith), lt-ltb (h + h) (t * 2) b) (sym (ap (λ (x : ℕ). x / (h + h)) e ∙ digits-div (q + 1) g)))
+    | no b ↦ rw (le-ltb (t * 2) (h + h) (omega arith), le-ltb (h + h) (t * 2) (omega arith)) (elim (decLt 0 (q % 2)) [
+      | yes o ↦
+          (let x : q + q % 2 ≡ q + 1 = omega arith in
+          let e : q * (h + h) + t + (h - 1) + q % 2 ≡ (q + 1) * (h + h) + 0 = omega (arith, add-mul q 1 (h + h)) in
+          rw x (sym (ap (λ (y : ℕ). y / (h + h)) e ∙ digits-div (q + 1) (omega arith))))
+      | no o ↦
+          (let x : q + q % 2 ≡ q = omega arith in
+          let e : q * (h + h) + t + (h - 1) + q % 2 ≡ q * (h + h) + (h + h - 1) = omega arith in
+          rw x (sym (ap (λ (y : ℕ). y / (h + h)) e ∙ digits-div q (omega arith))))
+    ])
+  ]
+]
+
+rounds-to : (u h : ℕ) → 0 < h → roundedOf (u / (h + h)) (u % (h + h)) (h + h) ≡ (u + (h - 1) + u / (h + h) % 2) / (h + h)
+rounds-to u h l =
+    let p = h + h in
+    added (u / p) (u % p) h (mod-lt u (omega arith)) ∙ rw (div-add-mod' u p)
+
+-- ---- on numbers
+
+-- the sizes: h is half a step, b half the narrower type's numbers
+module _ (k v : ℕ) (hk : 1 ≤ k) (hv : 2 ≤ v) where
+  wide : 2 ^ (v + k - 1) ≡ 2 ^ (v - 1) * 2 ^ k
+  wide = let e : v + k - 1 ≡ (v - 1) + k = omega arith in ap (λ (x : ℕ). 2 ^ x) e ∙ pow-add 2 (v - 1) k
+
+  even : 2 ^ (v - 1) % 2 ≡ 0
+  even = rw (doubles (v - 1) (omega arith)) (omega arith)
+
+  -- what the code computes, on the place u
+  module _ (u : ℕ) where
+    abbrev pub rise : ℕ
+    rise = (u + (2 ^ (k - 1) - 1) + u / 2 ^ k % 2) / 2 ^ k
+
+    pub narrowed-is : narrowed k v u ≡ min rise (2 ^ v - 1)
+    unfolding narrowed
+    narrowed-is = ap (λ (x : ℕ). min x (2 ^ v - 1)) (rw (doubles k hk) (rounds-to u (2 ^ (k - 1)) (pow-pos (k - 1))))
+
+    pub whole-is : shrZ (subℕ u (2 ^ (v + k - 1))) (2 ^ k) ≡ subℕ (u / 2 ^ k) (2 ^ (v - 1))
+    whole-is = rw wide (shifted u (2 ^ (v - 1)) (2 ^ k) (pow-pos k))
+
+    pub odd-is : natAbs (shrZ (subℕ u (2 ^ (v + k - 1))) (2 ^ k)) % 2 ≡ u / 2 ^ k % 2
+    odd-is = rw whole-is (parity (u / 2 ^ k) (2 ^ (v - 1)) even)
+
+    pub rise-is : shrZ (subℕ (u + (2 ^ (k - 1) - 1) + u / 2 ^ k % 2) (2 ^ (v + k - 1))) (2 ^ k) ≡ subℕ rise (2 ^ (v - 1))
+    rise-is = rw wide (shifted (u + (2 ^ (k - 1) - 1) + u / 2 ^ k % 2) (2 ^ (v - 1)) (2 ^ k) (pow-pos k))
+
+    pub top-is : pos (2 ^ (v - 1)) -ℤ pos 1 ≡ subℕ (2 ^ v - 1) (2 ^ (v - 1))
+    top-is =
+        pos-minus (2 ^ (v - 1)) 1
+        ∙ sub-le (2 ^ (v - 1)) 1 (pow-pos (v - 1))
+        ∙ sym (sub-le (2 ^ v - 1) (2 ^ (v - 1)) (omega (arith, doubles v (omega arith), pow-pos (v - 1))) ∙ ap pos (omega (arith, doubles v (omega arith))))
+
+    pub below : ltZ (subℕ rise (2 ^ (v - 1))) (subℕ (2 ^ v - 1) (2 ^ (v - 1))) ≡ true → subℕ rise (2 ^ (v - 1)) ≡ subℕ (narrowed k v u) (2 ^ (v - 1))
+    below e =
+        let l : rise < 2 ^ v - 1 = ltb-true _ _ (sym (less-is rise (2 ^ v - 1) (2 ^ (v - 1))) ∙ e) in
+        ap (λ (x : ℕ). subℕ x (2 ^ (v - 1))) (omega (arith, sym narrowed-is))
+
+    pub above : ltZ (subℕ rise (2 ^ (v - 1))) (subℕ (2 ^ v - 1) (2 ^ (v - 1))) ≡ false → subℕ (2 ^ v - 1) (2 ^ (v - 1)) ≡ subℕ (narrowed k v u) (2 ^ (v - 1))
+    above e =
+        let l : 2 ^ v - 1 ≤ rise = ltb-false _ _ (sym (less-is rise (2 ^ v - 1) (2 ^ (v - 1))) ∙ e) in
+        ap (λ (x : ℕ). subℕ x (2 ^ (v - 1))) (omega (arith, sym narrowed-is))
+
+-- ---- as the machine computes it
+
+pub fits-long : (a b : ℕ) → a < 2 ^ 34 → b ≤ 2 ^ 34 → SFits w64 (subℕ a b)
+fits-long a b h l = record { sfits = sub-mag a b (2 ^ 63) (omega arith) (omega arith) }
+
+pub long : (a b : ℕ) → a < 2 ^ 34 → b ≤ 2 ^ 34 → Long (subℕ a b) ≡ subℕ a b
+long a b h l = toZ-ofZ (fits-long a b h l)
+
+pub long-pos : (a : ℕ) → a < 2 ^ 34 → Long (pos a) ≡ pos a
+long-pos a h = back (pos a) (omega arith)
+
+-- n, and the powers and the parity as the callees give them
+module _ (n : ℤ) (k v : ℕ) (s : SFits w32 n) (hk : 1 ≤ k) (hv : 2 ≤ v) (hs : v + k ≤ 32) (hn : mag n < 2 ^ (v + k - 1)) where
+  abbrev B : ℕ
+  B = 2 ^ (v + k - 1)
+
+  abbrev u : ℕ
+  u = rank B n
+
+  B-le : B ≤ 2 ^ 31
+  B-le = pow-mono {i = v + k - 1} {j = 31} (omega arith)
+
+  h-le : 2 ^ (k - 1) ≤ 2 ^ 31
+  h-le = pow-mono {i = k - 1} {j = 31} (omega arith)
+
+  b-le : 2 ^ (v - 1) ≤ 2 ^ 31
+  b-le = pow-mono {i = v - 1} {j = 31} (omega arith)
+
+  v-le : 2 ^ v ≤ 2 ^ 32
+  v-le = pow-mono {i = v} {j = 32} (omega arith)
+
+  u-lt : u < 2 ^ 32
+  u-lt = omega (arith, rank-lt B n hn, B-le)
+
+  number : Long (Int n) ≡ subℕ u B
+  number = rw (toZ-ofZ s, toZ-ofZ (wider s)) (sym (sub-rank B n hn))
+
+  fits-narrow : (y : ℕ) → y < 2 ^ v → SFits w32 (subℕ y (2 ^ (v - 1)))
+  fits-narrow y h = record { sfits = sub-mag y (2 ^ (v - 1)) (2 ^ 31) (omega (arith, doubles v (omega arith), b-le)) b-le }
+
+  module _ (less : ℤ) (el : less ≡ pos (2 ^ (k - 1))) where
+    less-one : Long less -ℤ pos 1 ≡ pos (2 ^ (k - 1) - 1)
+    less-one =
+        rw (el, long-pos (2 ^ (k - 1)) (omega (arith, h-le)))
+        (pos-minus (2 ^ (k - 1)) 1 ∙ sub-le (2 ^ (k - 1)) 1 (pow-pos (k - 1)))
+
+    pub fits-less : SFits w64 (Long less -ℤ pos 1)
+    fits-less = rw less-one (record { sfits = omega (arith, h-le) })
+
+    abbrev w : ℕ
+    w = u + (2 ^ (k - 1) - 1)
+
+    half : Long (Int n) +ℤ Long (Long less -ℤ pos 1) ≡ subℕ w B
+    half = rw (number, less-one, long-pos (2 ^ (k - 1) - 1) (omega (arith, h-le))) (plus u B (2 ^ (k - 1) - 1))
+
+    pub fits-half : SFits w64 (Long (Int n) +ℤ Long (Long less -ℤ pos 1))
+    fits-half = rw half (fits-long w B (omega (arith, u-lt, h-le)) (omega (arith, B-le)))
+
+    module _ (odd : ℤ) (eo : odd ≡ pos (natAbs (Long (shrZ (Long (Int n)) (2 ^ k))) % 2)) where
+      parity-bit : odd ≡ pos (u / 2 ^ k % 2)
+      parity-bit =
+          eo
+          ∙ ap (λ (x : ℕ). pos x)
+          (rw (number, whole-is k v hk hv u, long (u / 2 ^ k) (2 ^ (v - 1)) (omega (arith, u-lt, shr-le u k)) (omega (arith, b-le)))
+          (parity (u / 2 ^ k) (2 ^ (v - 1)) (even k v hk hv)))
+
+      abbrev x : ℕ
+      x = w + u / 2 ^ k % 2
+
+      abbrev Sum : ℤ
+      Sum = Long (Long (Int n) +ℤ Long (Long less -ℤ pos 1)) +ℤ Long odd
+
+      sum : Sum ≡ subℕ x B
+      sum =
+          rw (half, long w B (omega (arith, u-lt, h-le)) (omega (arith, B-le)), parity-bit, long-pos (u / 2 ^ k % 2) (omega arith))
+          (plus w B (u / 2 ^ k % 2))
+
+      pub fits-sum : SFits w64 Sum
+      fits-sum = rw sum (fits-long x B (omega (arith, u-lt, h-le)) (omega (arith, B-le)))
+
+      abbrev X : ℤ
+      X = Long (shrZ (Long Sum) (2 ^ k))
+
+      abbrev y : ℕ
+      y = rise k v hk hv u
+
+      x-is : X ≡ subℕ y (2 ^ (v - 1))
+      x-is =
+          rw (sum, long x B (omega (arith, u-lt, h-le)) (omega (arith, B-le)), rise-is k v hk hv u)
+          (long y (2 ^ (v - 1)) (omega (arith, u-lt, h-le, shr-le x k)) (omega (arith, b-le)))
+
+      module _ (highest : ℤ) (eh : highest ≡ pos (2 ^ (v - 1))) where
+        pub fits-highest : SFits w64 (Long highest -ℤ pos 1)
+        fits-highest =
+            rw (eh, long-pos (2 ^ (v - 1)) (omega (arith, b-le)), pos-minus (2 ^ (v - 1)) 1)
+            (fits-long (2 ^ (v - 1)) 1 (omega (arith, b-le)) (omega arith))
+
+        abbrev Top : ℤ
+        Top = Long (Long highest -ℤ pos 1)
+
+        is-top : Top ≡ subℕ (2 ^ v - 1) (2 ^ (v - 1))
+        is-top =
+            rw (eh, long-pos (2 ^ (v - 1)) (omega (arith, b-le)), top-is k v hk hv u)
+            (long (2 ^ v - 1) (2 ^ (v - 1)) (omega (arith, v-le)) (omega (arith, b-le)))
+
+        pub fits-below : ltZ X Top ≡ true → SFits w32 X
+        fits-below e =
+            let l : y < 2 ^ v - 1 = ltb-true _ _ (sym (less-is y (2 ^ v - 1) (2 ^ (v - 1))) ∙ (rw (x-is, is-top) at e)) in
+            rw x-is (fits-narrow y (omega arith))
+
+        pub is-below : ltZ X Top ≡ true → Int X ≡ subℕ (narrowed k v u) (2 ^ (v - 1))
+        is-below e = toZ-ofZ (fits-below e) ∙ x-is ∙ below k v hk hv u (rw (x-is, is-top) at e)
+
+        pub fits-above : SFits w32 Top
+        fits-above = rw is-top (fits-narrow (2 ^ v - 1) (omega (arith, pow-pos v)))
+
+        pub is-above : ltZ X Top ≡ false → Int Top ≡ subℕ (narrowed k v u) (2 ^ (v - 1))
+        is-above e = toZ-ofZ fits-above ∙ is-top ∙ above k v hk hv u (rw (x-is, is-top) at e)

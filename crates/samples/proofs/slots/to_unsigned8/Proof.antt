@@ -1,0 +1,63 @@
+-- The number rescaled and 128 added is its place.
+use mathlib.Core.Path.{_≡_, refl, sym, ap, _∙_}
+use Prim.Native.Nat.{ℕ, _+_, _-_, _^_, _≤_, _<_}
+use native.Mathlib.Omega.{arith}
+use lib.Dec.{T, lit≤}
+use lib.IntN.{ℤ, pos, natAbs, subℕ, _+ℤ_}
+use lib.Signed.{mag, nonNeg}
+use mir.Syntax.{w32}
+use mir.Val.{Fits, SFits}
+use mir.Facts.{toZ-ofZ}
+use borrow.Author.Needs.{needs}
+use Rattle.samples.specs.declared.Format.the-variants.{Unsigned8}
+use Rattle.samples.specs.Convert.{rank, rescaled, converted}
+use Rattle.samples.specs.Wire.{signedOf, sentOf}
+use Rattle.samples.proofs.Machine.{Int}
+use Rattle.samples.proofs.Places.{doubles, rank-lt, sub-le, plus}
+use Rattle.samples.proofs.Rescaled.{rescaled-lt}
+use Rattle.samples.proofs.Bits.{signed-mag}
+use Rattle.samples.proofs.Moves.{bits8, bits24, room, there}
+use Rattle.samples.proofs.slots.to_unsigned8.Statement.{statement}
+use Rattle.samples.proofs.slots.to_unsigned8.Tie as tie
+
+module _ (s : ℕ) (h : s < 2 ^ 24) where
+  small : mag (signedOf 24 s) < 2 ^ 23
+  small = signed-mag 24 (lit≤ tt) s h
+
+  abbrev y : ℕ
+  y = rescaled 24 8 (rank 8388608 (signedOf 24 s))
+
+  below : y < 256
+  below = rescaled-lt 24 8 (rank 8388608 (signedOf 24 s)) (omega (arith, rank-lt 8388608 (signedOf 24 s) small))
+
+  module _ (r : ℤ) (e : Int r ≡ subℕ y 128) where
+    sum : Int r +ℤ pos 128 ≡ pos y
+    sum = rw e (plus y 128 128 ∙ sub-le (y + 128) 128 (omega arith) ∙ ap pos (omega arith))
+
+    fits : SFits w32 (Int r +ℤ pos 128)
+    fits = rw sum (record { sfits = omega (arith, below) })
+
+    number : Int (Int r +ℤ pos 128) ≡ pos y
+    number = toZ-ofZ fits ∙ sum
+
+    whole : T (nonNeg (Int (Int r +ℤ pos 128))) × Fits w32 (natAbs (Int (Int r +ℤ pos 128)))
+    whole = rw number (tt, record { fits = omega (arith, below) })
+
+    sent : (natAbs (Int (Int r +ℤ pos 128)) ≡ sentOf Unsigned8 s) × (natAbs (Int (Int r +ℤ pos 128)) < 2 ^ 8)
+    unfolding sentOf converted
+    sent = rw number (sym (ap natAbs (sub-le y 0 (omega arith)) ∙ omega arith), below)
+
+start : (c : tie.After-rescale) → Int (c .rescale .result) ≡ subℕ (y (c .before .before .args .s) (c .before .before .pre)) 128
+start c =
+    let o = c .before .before in
+    there 24 8 (signedOf 24 (o .args .s)) bits24 bits8 (small (o .args .s) (o .pre)) _ (c .before .signed .ok) (c .before .signed .ensures) _ (c .rescale .ok) (c .rescale .ensures)
+
+pub to-unsigned8-spec : {M : Type 1} → statement M
+to-unsigned8-spec =
+    tie.close
+    (tie.spec
+    (λ c κs. search needs)
+    (λ c κs. room 24 8 (signedOf 24 (c .before .args .s)) bits24 bits8 (small (c .before .args .s) (c .before .pre)) _ (c .signed .ok) (c .signed .ensures))
+    (λ c. fits _ (c .before .before .pre) (c .rescale .result) (start c))
+    (λ c. whole _ (c .before .before .pre) (c .rescale .result) (start c))
+    (λ c. sent _ (c .before .before .pre) (c .rescale .result) (start c)))

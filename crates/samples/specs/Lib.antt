@@ -1,0 +1,4 @@
+pub mod Formats
+pub mod Convert
+pub mod Nearest
+pub mod Wire

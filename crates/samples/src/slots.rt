@@ -1,0 +1,71 @@
+// Each wire type's sample as a slot, and a slot as each wire type's sample, bits to bits: the track's loops call these.
+ghost use mathlib.Core.Path.{_≡_};
+ghost use Prim.Native.Nat.{_-_, _^_, _≤_, _<_};
+ghost use lib.IntN.{subℕ};
+ghost use Rattle.samples.specs.declared.Format.the-variants.{Unsigned8, Signed16, Signed24, Signed32};
+ghost use Rattle.samples.specs.Convert.{rank, rescaled};
+ghost use Rattle.samples.specs.Wire.{signedOf, bitsOf, slotOf, sentOf};
+use crate::numbers;
+
+// A signed sample of `w` bits as one of `v` bits.
+fn moved(u: u32, w: u32, v: u32) -> u32
+    requires { ⌜ (2 ≤ w) × (w ≤ 32) × (2 ≤ v) × (v ≤ 32) × (u < 2 ^ w) ⌝ }
+    ensures { λ r. ⌜ (r ≡ bitsOf v (subℕ (rescaled w v (rank (2 ^ (w - 1)) (signedOf w u))) (2 ^ (v - 1)))) × (r < 2 ^ v) ⌝ }
+{
+    numbers::bits(numbers::rescale(numbers::signed(u, w), w, v), v)
+}
+
+pub fn from_unsigned8(u: u32) -> u32
+    requires { ⌜ u < 2 ^ 8 ⌝ }
+    ensures { λ r. ⌜ (r ≡ slotOf Unsigned8 u) × (r < 2 ^ 24) ⌝ }
+{
+    numbers::bits(numbers::rescale(u as i32 - 128, 8, 24), 24)
+}
+
+pub fn from_signed16(u: u32) -> u32
+    requires { ⌜ u < 2 ^ 16 ⌝ }
+    ensures { λ r. ⌜ (r ≡ slotOf Signed16 u) × (r < 2 ^ 24) ⌝ }
+{
+    moved(u, 16, 24)
+}
+
+pub fn from_signed24(u: u32) -> u32
+    requires { ⌜ u < 2 ^ 24 ⌝ }
+    ensures { λ r. ⌜ (r ≡ slotOf Signed24 u) × (r < 2 ^ 24) ⌝ }
+{
+    u
+}
+
+pub fn from_signed32(u: u32) -> u32
+    ensures { λ r. ⌜ (r ≡ slotOf Signed32 u) × (r < 2 ^ 24) ⌝ }
+{
+    moved(u, 32, 24)
+}
+
+pub fn to_unsigned8(s: u32) -> u32
+    requires { ⌜ s < 2 ^ 24 ⌝ }
+    ensures { λ r. ⌜ (r ≡ sentOf Unsigned8 s) × (r < 2 ^ 8) ⌝ }
+{
+    (numbers::rescale(numbers::signed(s, 24), 24, 8) + 128) as u32
+}
+
+pub fn to_signed16(s: u32) -> u32
+    requires { ⌜ s < 2 ^ 24 ⌝ }
+    ensures { λ r. ⌜ (r ≡ sentOf Signed16 s) × (r < 2 ^ 16) ⌝ }
+{
+    moved(s, 24, 16)
+}
+
+pub fn to_signed24(s: u32) -> u32
+    requires { ⌜ s < 2 ^ 24 ⌝ }
+    ensures { λ r. ⌜ (r ≡ sentOf Signed24 s) × (r < 2 ^ 24) ⌝ }
+{
+    s
+}
+
+pub fn to_signed32(s: u32) -> u32
+    requires { ⌜ s < 2 ^ 24 ⌝ }
+    ensures { λ r. ⌜ r ≡ sentOf Signed32 s ⌝ }
+{
+    moved(s, 24, 32)
+}
