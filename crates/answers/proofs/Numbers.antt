@@ -39,6 +39,14 @@ named-number State = refl
 pub number-told : (a b : Answer) → numberOf a ≡ numberOf b → a ≡ b
 number-told = told numberOf named named-number
 
+-- a number that was tested against 0 tells acceptance
+module _ (a : Answer) (n : ℕ) (q : n ≡ numberOf a) where
+  pub accepts : n ≡ 0 → a ≡ Accepted
+  accepts z = number-told a Accepted (sym q ∙ z)
+
+  pub refuses : (n ≡ 0 → ⊥) → a ≡ Accepted → ⊥
+  refuses z p = z (q ∙ ap numberOf p)
+
 abbrev named-made : ℕ → Made
 named-made n = getD (Done ∷ Form ∷ Big ∷ Data ∷ Room ∷ Number ∷ Done ∷ Sample ∷ []) (n - 19) Done
 

@@ -3,7 +3,7 @@
 --     flag        t is what a function ensures is b
 --     less        t is a comparison of two numbers
 --     more-of     the same, where the number tested is what a function ensures is the definition's
---     unlike      t is `!=`
+--     unlike      t is `!=` of two numbers, and unlike-of where a function ensures the number tested
 use mathlib.Core.Path.{_≡_, refl, sym, _∙_}
 use mathlib.Core.Bool.{Bool, true, false, not}
 use Prim.Native.Nat.{ℕ, _<_, _≤_}
@@ -36,10 +36,16 @@ module _ {A : Type 0} where
   pub more-of-no : (n a r : ℕ) (x y z : A) → r ≡ a → r ≤ n → z ≡ y → z ≡ choose (ltb n a) x y
   more-of-no n a r x y z e h w = less-no n a x y z (rw e at h) w
 
+  pub unlike-yes : (a n : ℕ) (x y : A) → (a ≡ n → ⊥) → x ≡ choose (unlike a n) x y
+  unlike-yes a n x y h = rw (ne-eqb a n h)
+
+  pub unlike-no : (a n : ℕ) (x y z : A) → a ≡ n → z ≡ y → z ≡ choose (unlike a n) x y
+  unlike-no a n x y z h w = rw (eq-eqb a n h) w
+
   pub unlike-of-yes : (n a r : ℕ) (x y : A) → r ≡ a → (r ≡ n → ⊥) → x ≡ choose (unlike a n) x y
-  unlike-of-yes n a r x y e h = rw (ne-eqb a n (λ p. h (e ∙ p)))
+  unlike-of-yes n a r x y e h = unlike-yes a n x y (λ p. h (e ∙ p))
 
   pub unlike-of-no : (n a r : ℕ) (x y z : A) → r ≡ a → r ≡ n → z ≡ y → z ≡ choose (unlike a n) x y
-  unlike-of-no n a r x y z e h w = rw (eq-eqb a n (sym e ∙ h)) w
+  unlike-of-no n a r x y z e h w = unlike-no a n x y z (sym e ∙ h) w
 
 pub ruleset rows = (flag-yes, flag-no, not-yes, not-no, less-yes, less-no, more-of-yes, more-of-no, unlike-of-yes, unlike-of-no)

@@ -3,7 +3,7 @@ use Prim.Native.Nat.{ℕ}
 use mathlib.Core.Path.{_≡_}
 use mathlib.Core.List.{List, [], _∷_, _++_}
 use mathlib.Core.Bool.{Bool, true, false, not}
-use lib.Dec.{eqb}
+use lib.Dec.{ltb, eqb}
 
 -- a where the test holds, else b
 abbrev pub choose : {A : Type 0} → Bool → A → A → A
@@ -30,6 +30,10 @@ any (b ∷ rest) = choose b true (any rest)
 
 abbrev pub unlike : ℕ → ℕ → Bool
 unlike a b = not (eqb a b)
+
+-- outside 1 to top
+abbrev pub outside : ℕ → ℕ → Bool
+outside top n = any (ltb n 1 ∷ ltb top n ∷ [])
 
 -- no row refuses
 abbrev pub NoneRefuses : {A : Type 0} → List (Row A) → Type 0

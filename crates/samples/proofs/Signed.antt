@@ -3,13 +3,14 @@ use mathlib.Core.Path.{_≡_, refl, sym, ap, _∙_}
 use mathlib.Core.Bool.{Bool, true, false}
 use Prim.Native.Nat.{ℕ, zero, suc, _+_, _-_, _*_, _/_, _%_, _≤_, _<_}
 use native.Mathlib.Omega.{arith}
-use native.Mathlib.Decide.{decLe, decLt}
+use native.Mathlib.Decide.{decLe}
 use native.Mathlib.Nat.{mul-le-mul-right, suc-mul, mul-sub, mul-comm, not-suc-le-zero, div-add-mod', mod-lt, div-le-self}
 use lib.Arith.{digits-div}
 use lib.Dec.{ltb}
 use lib.IntN.{ℤ, pos, negsuc, negℤ, subℕ, natAbs, _+ℤ_, _-ℤ_, _*ℤ_}
 use lib.Signed.{shrZ, ltZ}
 use borrow.Author.Tests.{lt-ltb, le-ltb}
+use Rattle.lists.proofs.Tables.{less-alike}
 use Rattle.samples.proofs.Places.{sub-le, sub-lt, by-sign}
 
 -- a shift that rounds down
@@ -42,17 +43,11 @@ pub less-is : (a c b : ℕ) → ltZ (subℕ a b) (subℕ c b) ≡ ltb a c
 less-is a c b =
     by-sign (λ z. ltZ z (subℕ c b) ≡ ltb a c) a b
     (λ h. by-sign (λ z. ltZ (pos (a - b)) z ≡ ltb a c) c b
-    (λ g. same (a - b) (c - b) a c (λ l. omega arith) (λ l. omega arith))
+    (λ g. less-alike (a - b) (c - b) a c (λ l. omega arith) (λ l. omega arith))
     (λ g. sym (le-ltb a c (omega arith))))
     (λ h. by-sign (λ z. ltZ (negsuc (b - suc a)) z ≡ ltb a c) c b
     (λ g. sym (lt-ltb a c (omega arith)))
-    (λ g. same (b - suc c) (b - suc a) a c (λ l. omega arith) (λ l. omega arith)))
-  where
-    same : (x y s t : ℕ) → (s < t → x < y) → (t ≤ s → y ≤ x) → ltb x y ≡ ltb s t
-    same x y s t f g = elim (decLt s t) [
-      | yes h ↦ lt-ltb x y (f h) ∙ sym (lt-ltb s t h)
-      | no h ↦ let k : t ≤ s = omega arith in le-ltb x y (g k) ∙ sym (le-ltb s t k)
-    ]
+    (λ g. less-alike (b - suc c) (b - suc a) a c (λ l. omega arith) (λ l. omega arith)))
 
 neg-pos : (n : ℕ) → 0 < n → negℤ (pos n) ≡ negsuc (n - 1)
 neg-pos zero h = absurd (not-suc-le-zero h)

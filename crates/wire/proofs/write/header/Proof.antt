@@ -1,0 +1,29 @@
+-- The raw bytes are the joined fields.
+use mathlib.Core.Path.{_≡_, _∙_}
+use mathlib.Core.List.{List}
+use Prim.Native.Nat.{ℕ, _-_}
+use borrow.Author.Needs.{needs}
+use Rattle.wire.specs.declared.header.Header.{Header}
+use Rattle.wire.specs.Header.{joinedFour, joinedSeven}
+use Rattle.wire.specs.Write.{leadOf, headerBytes}
+use Rattle.wire.proofs.write.header.Statement.{statement}
+use Rattle.wire.proofs.write.header.Tie as tie
+
+of-fields : (h : Header) (out : List ℕ) (b4 b7 : ℕ) → out ≡ leadOf b4 (h .frames - 1) (h .channels - 1) b7 (h .name) (h .counter)
+    → b4 ≡ joinedFour (h .rate) 0 → b7 ≡ joinedSeven (h .format) 0 0 → out ≡ headerBytes h
+of-fields h out b4 b7 e p q = e ∙ rw (p, q)
+
+pub header-spec : {M : Type 1} → statement M
+header-spec =
+    tie.close
+    (tie.spec
+    (λ c κs. search needs)
+    (λ c. search needs)
+    (λ c. search needs)
+    (λ c. search needs)
+    (λ c. search needs)
+    (λ c κs. search needs)
+    (λ c. search needs)
+    (λ c κs. search needs)
+    (λ c. search needs)
+    (λ c. search of-fields))

@@ -1,0 +1,70 @@
+-- A refusal, or the packet.
+use mathlib.Core.Path.{_≡_, sym, _∙_}
+use mathlib.Core.List.{List}
+use Prim.Native.Nat.{ℕ, _+_, _≤_}
+use native.Mathlib.Nat.{le-of-eq}
+use lib.ListN.{length}
+use borrow.Author.Needs.{needs}
+use borrow.Author.Tests.{eq-eqb, ne-eqb}
+use Rattle.lists.specs.Lists.{put}
+use Rattle.lists.specs.Tables.{first}
+use Rattle.answers.specs.declared.Made.{Made}
+use Rattle.answers.specs.declared.Made.the-variants.{Done}
+use Rattle.answers.specs.Numbers.{numberMade}
+use Rattle.answers.proofs.Numbers.{made-told}
+use Rattle.wire.specs.declared.header.Header.{Header}
+use Rattle.wire.specs.Write.{packetOf, writeRows, writeOf, outputOf, GoodForm}
+use Rattle.wire.proofs.Writing.{done-exactly}
+use Rattle.wire.proofs.write.write.Statement.{statement}
+use Rattle.wire.proofs.write.write.Tie as tie
+
+module _ (h : Header) (samples out : List ℕ) (a : Made) (n : ℕ) (q : n ≡ numberMade a)
+    (e : a ≡ first Done (writeRows h (length samples) (length out))) where
+  refused : (n ≡ 0 → ⊥) → (record { answer = a; length = 0 } ≡ writeOf h samples out) × (out ≡ outputOf h samples out)
+  unfolding writeOf outputOf
+  refused z =
+      let t = ne-eqb (numberMade a) 0 (λ s. z (q ∙ s)) in
+      (rw (← e, t), rw (← e, t))
+
+  allowed : length (h .name) ≡ 16 → n ≡ 0 → GoodForm h × (28 + length samples ≤ length out)
+  allowed l z =
+      let r = done-exactly h (le-of-eq l) (length samples) (length out) .0 (sym e ∙ made-told a Done (sym q ∙ z)) in
+      (r .0, r .1 .1 .1 .0)
+
+  written : (o : List ℕ) → n ≡ 0 → o ≡ put out 0 (packetOf h samples)
+      → (record { answer = a; length = 28 + length samples } ≡ writeOf h samples out) × (o ≡ outputOf h samples out)
+  unfolding writeOf outputOf
+  written o z p =
+      let t = eq-eqb (numberMade a) 0 (sym q ∙ z) in
+      (rw (← e, t), rw (← e, t) p)
+
+asks : tie.Need-emit-requires
+asks c κs =
+    let a = c .before .before .before .before .before .before .args in
+    let l : length (a .h .name) ≡ 16 = search needs in
+    allowed (a .h) (a .samples .now) (a .out .now) _ _ (c .before .before .number-made .ensures) (c .before .before .before .refusal .ensures) l
+    (c .before .if1 .left)
+
+refuses : tie.Need-returns
+refuses c =
+    let a = c .before .before .before .before .before .args in
+    refused (a .h) (a .samples .now) (a .out .now) _ _ (c .before .number-made .ensures) (c .before .before .refusal .ensures) (c .if1 .taken)
+
+writes : tie.Need-returns-2
+writes c =
+    let b = c .before .before .before .before in
+    let a = b .before .before .before .before .before .args in
+    written (a .h) (a .samples .now) (a .out .now) _ _ (b .before .number-made .ensures) (b .before .before .refusal .ensures) _ (b .if1 .left)
+    (c .before .before .emit .ensures)
+
+pub write-spec : {M : Type 1} → statement M
+write-spec =
+    tie.close
+    (tie.spec
+    (λ c κs. search needs)
+    (λ c κs. search needs)
+    refuses
+    asks
+    (λ c. search needs)
+    (λ c. search needs)
+    writes)

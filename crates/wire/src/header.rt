@@ -1,0 +1,175 @@
+// The header alone: its 28 bytes checked and read.
+ghost use mathlib.Core.Path.{_≡_};
+ghost use Prim.Native.Nat.{_*_, _^_, _≤_, _<_};
+ghost use lib.ListN.{length};
+ghost use Rattle.lists.specs.Tables.{first};
+ghost use Rattle.samples.specs.Formats.{sizeAt};
+ghost use Rattle.answers.specs.declared.Answer.the-variants.{Accepted};
+ghost use Rattle.wire.specs.Header.{counterOf, headerOf, noHeader, dataSize, foreign, markRows, bitRows, fieldRows, headerRows, headerAlone};
+use answers::Answer;
+use samples::Format;
+
+pub struct Header {
+    pub rate: u8,
+    pub frames: u16,
+    pub channels: u16,
+    pub format: u8,
+    pub name: [u8; 16],
+    pub counter: u32,
+}
+
+pub struct HeaderAnswer {
+    pub answer: Answer,
+    pub header: Header,
+}
+
+fn is_foreign(d: &[u8]) -> bool
+    ensures { λ r. ⌜ r ≡ foreign (now (d .entry)) ⌝ }
+{
+    if lists::at(d, 0) != 0x56 {
+        return true;
+    }
+    if lists::at(d, 1) != 0x42 {
+        return true;
+    }
+    if lists::at(d, 2) != 0x41 {
+        return true;
+    }
+    if lists::at(d, 3) != 0x4e {
+        return true;
+    }
+    false
+}
+
+// Rows 3 and 4.
+pub fn mark_refusal(d: &[u8]) -> Answer
+    requires { ⌜ 28 ≤ length (now d) ⌝ }
+    ensures { λ r. ⌜ r ≡ first Accepted (markRows (now (d .entry))) ⌝ }
+{
+    if is_foreign(d) {
+        return Answer::Foreign;
+    }
+    if !crate::name::good(&d[8..24]) {
+        return Answer::Name;
+    }
+    Answer::Accepted
+}
+
+// Rows 6 to 10, by bytes 4 and 7.
+fn bit_refusal(four: u8, seven: u8) -> Answer
+    ensures { λ r. ⌜ r ≡ first Accepted (bitRows four seven) ⌝ }
+{
+    if crate::bits::sub_protocol(four) != 0 {
+        return Answer::SubProtocol;
+    }
+    if crate::bits::codec(seven) != 0 {
+        return Answer::Codec;
+    }
+    if crate::bits::reserved(seven) != 0 {
+        return Answer::Reserved;
+    }
+    if crate::bits::rate(four) > 20 {
+        return Answer::Rate;
+    }
+    if !Format::may_read(crate::bits::format(seven)) {
+        return Answer::DataType;
+    }
+    Answer::Accepted
+}
+
+pub(crate) fn field_refusal(d: &[u8]) -> Answer
+    ensures { λ r. ⌜ r ≡ first Accepted (fieldRows (now (d .entry))) ⌝ }
+{
+    bit_refusal(lists::at(d, 4), lists::at(d, 7))
+}
+
+fn refusal(d: &[u8]) -> Answer
+    requires { ⌜ 28 ≤ length (now d) ⌝ }
+    ensures { λ r. ⌜ r ≡ first Accepted (headerRows (now (d .entry))) ⌝ }
+{
+    let a = mark_refusal(d);
+    if answers::number(a) != 0 {
+        return a;
+    }
+    field_refusal(d)
+}
+
+fn counter(d: &[u8]) -> u32
+    ensures { λ r. ⌜ r ≡ counterOf (now (d .entry)) ⌝ }
+{
+    crate::bits::join_counter(
+        lists::at(d, 24),
+        lists::at(d, 25),
+        lists::at(d, 26),
+        lists::at(d, 27),
+    )
+}
+
+pub(crate) fn fields(d: &[u8]) -> Header
+    requires { ⌜ 28 ≤ length (now d) ⌝ }
+    ensures { λ r. ⌜ r ≡ headerOf (now (d .entry)) ⌝ }
+{
+    let name = crate::name::kept(&d[8..24]);
+    Header {
+        rate: crate::bits::rate(lists::at(d, 4)),
+        frames: lists::at(d, 5) as u16 + 1,
+        channels: lists::at(d, 6) as u16 + 1,
+        format: crate::bits::format(lists::at(d, 7)),
+        name,
+        counter: counter(d),
+    }
+}
+
+pub fn none() -> Header
+    ensures { λ r. ⌜ r ≡ noHeader ⌝ }
+{
+    Header {
+        rate: 0,
+        frames: 0,
+        channels: 0,
+        format: 0,
+        name: [0u8; 16],
+        counter: 0,
+    }
+}
+
+// The header of a datagram, or of the 28 bytes alone: rows 3, 4 and 6 to 10.
+pub fn alone(d: &[u8]) -> HeaderAnswer
+    requires { ⌜ 28 ≤ length (now d) ⌝ }
+    ensures { λ r. ⌜ r ≡ headerAlone (now (d .entry)) ⌝ }
+{
+    let a = refusal(d);
+    if answers::number(a) != 0 {
+        return HeaderAnswer {
+            answer: a,
+            header: none(),
+        };
+    }
+    HeaderAnswer {
+        answer: a,
+        header: fields(d),
+    }
+}
+
+// The bytes of so many frames and channels of a type.
+fn size_of(frames: u16, channels: u16, format: u8) -> usize
+    ensures { λ r. ⌜ (r ≡ frames * channels * sizeAt format) × (r < 2 ^ 40) ⌝ }
+{
+    frames as usize * channels as usize * Format::size_at(format)
+}
+
+// The number of data bytes.
+pub fn data_size(h: Header) -> usize
+    ensures { λ r. ⌜ r ≡ dataSize h ⌝ }
+{
+    size_of(h.frames, h.channels, h.format)
+}
+
+// The same of a datagram, without reading its name.
+pub(crate) fn size_in(d: &[u8]) -> usize
+    ensures { λ r. ⌜ (r ≡ dataSize (headerOf (now (d .entry)))) × (r < 2 ^ 40) ⌝ }
+{
+    let frames = lists::at(d, 5) as u16 + 1;
+    let channels = lists::at(d, 6) as u16 + 1;
+    size_of(frames, channels, crate::bits::format(lists::at(d, 7)))
+}

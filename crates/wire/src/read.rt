@@ -1,0 +1,111 @@
+// Reading a datagram.
+ghost use mathlib.Core.Path.{_≡_};
+ghost use Prim.Native.Nat.{_+_};
+ghost use lib.ListN.{length};
+ghost use lib.Dec.{ltb};
+ghost use Rattle.lists.specs.Tables.{first, unlike};
+ghost use Rattle.answers.specs.declared.Answer.the-variants.{Accepted};
+ghost use Rattle.wire.specs.Header.{headerOf, dataSize};
+ghost use Rattle.wire.specs.Read.{frontRows, frontOf, lengthRows, audioRows, readRows, readOf};
+use crate::header::Header;
+use answers::Answer;
+
+// What the front of a datagram gives: rows 1 to 4, and its name.
+pub struct FrontAnswer {
+    pub answer: Answer,
+    pub name: [u8; 16],
+}
+
+pub struct ReadAnswer {
+    pub answer: Answer,
+    pub header: Header,
+    pub size: usize,
+}
+
+fn is_long(d: &[u8]) -> bool
+    ensures { λ r. ⌜ r ≡ ltb 1464 (length (now (d .entry))) ⌝ }
+{
+    d.len() > 1464
+}
+
+fn is_inexact(d: &[u8]) -> bool
+    ensures { λ r. ⌜ r ≡ unlike (length (now (d .entry))) (28 + dataSize (headerOf (now (d .entry)))) ⌝ }
+{
+    d.len() != 28 + crate::header::size_in(d)
+}
+
+fn front_refusal(d: &[u8]) -> Answer
+    ensures { λ r. ⌜ r ≡ first Accepted (frontRows (now (d .entry))) ⌝ }
+{
+    if d.len() < 28 {
+        return Answer::Short;
+    }
+    if is_long(d) {
+        return Answer::Long;
+    }
+    crate::header::mark_refusal(d)
+}
+
+pub fn front(d: &[u8]) -> FrontAnswer
+    ensures { λ r. ⌜ r ≡ frontOf (now (d .entry)) ⌝ }
+{
+    let a = front_refusal(d);
+    if answers::number(a) != 0 {
+        return FrontAnswer {
+            answer: a,
+            name: [0u8; 16],
+        };
+    }
+    let name = crate::name::kept(&d[8..24]);
+    FrontAnswer { answer: a, name }
+}
+
+fn length_refusal(d: &[u8]) -> Answer
+    ensures { λ r. ⌜ r ≡ first Accepted (lengthRows (now (d .entry))) ⌝ }
+{
+    if is_inexact(d) {
+        return Answer::Length;
+    }
+    Answer::Accepted
+}
+
+// Rows 6 to 11.
+fn audio_refusal(d: &[u8]) -> Answer
+    ensures { λ r. ⌜ r ≡ first Accepted (audioRows (now (d .entry))) ⌝ }
+{
+    let a = crate::header::field_refusal(d);
+    if answers::number(a) != 0 {
+        return a;
+    }
+    length_refusal(d)
+}
+
+fn refusal(d: &[u8]) -> Answer
+    ensures { λ r. ⌜ r ≡ first Accepted (readRows (now (d .entry))) ⌝ }
+{
+    let a = front_refusal(d);
+    if answers::number(a) != 0 {
+        return a;
+    }
+    audio_refusal(d)
+}
+
+// The first check that refuses gives its answer; else the header and the number of data bytes, which start at byte 28.
+pub fn read(d: &[u8]) -> ReadAnswer
+    ensures { λ r. ⌜ r ≡ readOf (now (d .entry)) ⌝ }
+{
+    let a = refusal(d);
+    if answers::number(a) != 0 {
+        return ReadAnswer {
+            answer: a,
+            header: crate::header::none(),
+            size: 0,
+        };
+    }
+    let header = crate::header::fields(d);
+    ReadAnswer {
+        answer: a,
+        header,
+        size: crate::header::data_size(header),
+    }
+}

@@ -1,0 +1,126 @@
+// Writing one packet.
+ghost use mathlib.Core.Path.{_≡_};
+ghost use Prim.Native.Nat.{_+_, _≤_, _<_};
+ghost use lib.ListN.{length};
+ghost use Rattle.lists.specs.Tables.{first};
+ghost use Rattle.answers.specs.declared.Made.the-variants.{Done};
+ghost use Rattle.lists.specs.Lists.{put};
+ghost use Rattle.wire.specs.Write.{leadOf, headerBytes, packetOf, GoodForm, badForm, writeRows, writeOf, outputOf};
+use crate::header::Header;
+use answers::Made;
+use samples::Format;
+
+pub struct Written {
+    pub answer: Made,
+    pub length: usize,
+}
+
+fn bad_form(h: Header) -> bool
+    ensures { λ r. ⌜ r ≡ badForm h ⌝ }
+{
+    if h.rate > 20 {
+        return true;
+    }
+    if !Format::may_send(h.format) {
+        return true;
+    }
+    if lists::is_outside(h.frames, 256) {
+        return true;
+    }
+    if lists::is_outside(h.channels, 256) {
+        return true;
+    }
+    let name = h.name;
+    if !crate::name::good(&name) {
+        return true;
+    }
+    false
+}
+
+// By the header, the bytes of data given and the room for the packet. After row 22 what is given is small, so the sum fits.
+pub fn refusal(h: Header, given: usize, room: usize) -> Made
+    ensures { λ r. ⌜ r ≡ first Done (writeRows h given room) ⌝ }
+{
+    if bad_form(h) {
+        return Made::Form;
+    }
+    let size = crate::header::data_size(h);
+    if size > 1436 {
+        return Made::Big;
+    }
+    if given != size {
+        return Made::Data;
+    }
+    if room < 28 + given {
+        return Made::Room;
+    }
+    Made::Done
+}
+
+// Writes `src` over `out` from `at`.
+fn place(src: &[u8], out: &mut [u8], at: usize)
+    requires { ⌜ at + length (now src) ≤ length (now out) ⌝ }
+    ensures { λ _. ⌜ now (out .exit) ≡ put (now (out .entry)) at (now (src .entry)) ⌝ }
+{
+    let e = at + src.len();
+    bytes::copy(src, &mut out[at..e]);
+}
+
+// The 28 bytes, of the raw bytes 4 to 7, a name and a counter.
+pub fn lead(b4: u8, b5: u8, b6: u8, b7: u8, name: &[u8], counter: u32, out: &mut [u8])
+    requires { ⌜ length (now name) ≡ 16 ⌝ }
+    requires { ⌜ length (now out) ≡ 28 ⌝ }
+    ensures { λ _. ⌜ now (out .exit) ≡ leadOf b4 b5 b6 b7 (now (name .entry)) counter ⌝ }
+{
+    let mark = [0x56u8, 0x42, 0x41, 0x4e, b4, b5, b6, b7];
+    let kept = crate::name::kept(name);
+    let count = crate::bits::split_counter(counter);
+    place(&mark, out, 0);
+    place(&kept, out, 8);
+    place(&count, out, 24);
+}
+
+// The 28 bytes of a header: audio, PCM, the reserved bit zero.
+pub fn header(h: Header, out: &mut [u8])
+    requires { ⌜ (h .rate < 32) × (h .format < 8) ⌝ }
+    requires { ⌜ (1 ≤ h .frames) × (h .frames ≤ 256) ⌝ }
+    requires { ⌜ (1 ≤ h .channels) × (h .channels ≤ 256) ⌝ }
+    requires { ⌜ length (now out) ≡ 28 ⌝ }
+    ensures { λ _. ⌜ now (out .exit) ≡ headerBytes h ⌝ }
+{
+    let b4 = crate::bits::join_four(h.rate, 0);
+    let b5 = (h.frames - 1) as u8;
+    let b6 = (h.channels - 1) as u8;
+    let b7 = crate::bits::join_seven(h.format, 0, 0);
+    let name = h.name;
+    lead(b4, b5, b6, b7, &name, h.counter, out);
+}
+
+// A packet of good form, where there is room.
+fn emit(h: Header, samples: &[u8], out: &mut [u8])
+    requires { ⌜ GoodForm h ⌝ }
+    requires { ⌜ 28 + length (now samples) ≤ length (now out) ⌝ }
+    ensures { λ _. ⌜ now (out .exit) ≡ put (now (out .entry)) 0 (packetOf h (now (samples .entry))) ⌝ }
+{
+    header(h, &mut out[0..28]);
+    place(samples, out, 28);
+}
+
+// Writes a packet, or nothing where a check refuses.
+pub fn write(h: Header, samples: &[u8], out: &mut [u8]) -> Written
+    ensures { λ r. ⌜ r ≡ writeOf h (now (samples .entry)) (now (out .entry)) ⌝ }
+    ensures { λ _. ⌜ now (out .exit) ≡ outputOf h (now (samples .entry)) (now (out .entry)) ⌝ }
+{
+    let a = refusal(h, samples.len(), out.len());
+    if answers::number_made(a) != 0 {
+        return Written {
+            answer: a,
+            length: 0,
+        };
+    }
+    emit(h, samples, out);
+    Written {
+        answer: a,
+        length: 28 + samples.len(),
+    }
+}
