@@ -1,8 +1,11 @@
 -- Each answer has a number of its own.
 use mathlib.Core.Path.{_≡_, refl, sym, ap, _∙_}
+use mathlib.Core.Bool.{false}
 use mathlib.Core.List.{List, [], _∷_}
 use Prim.Native.Nat.{ℕ, _-_}
+use lib.Dec.{eqb}
 use lib.ListN.{getD}
+use borrow.Author.Tests.{ne-eqb}
 use Rattle.answers.specs.declared.Answer.{Answer}
 use Rattle.answers.specs.declared.Answer.the-variants.{Accepted, Short, Long, Foreign, Name, OtherStream, SubProtocol, Codec, Reserved, Rate, DataType, Length, Channels, Shape, Late, Beyond, State}
 use Rattle.answers.specs.declared.Made.{Made}
@@ -11,7 +14,7 @@ use Rattle.answers.specs.Numbers.{numberOf, numberMade}
 
 -- what has a name of its own in the list is told from every other
 module _ {A : Type 0} (number : A → ℕ) (named : ℕ → A) (back : (a : A) → named (number a) ≡ a) where
-  told : (a b : A) → number a ≡ number b → a ≡ b
+  pub told : (a b : A) → number a ≡ number b → a ≡ b
   told a b e = sym (back a) ∙ ap named e ∙ back b
 
 abbrev named : ℕ → Answer
@@ -38,6 +41,10 @@ named-number State = refl
 
 pub number-told : (a b : Answer) → numberOf a ≡ numberOf b → a ≡ b
 number-told = told numberOf named named-number
+
+-- a refusal's number is not 0
+pub refusal-number : (a : Answer) → (a ≡ Accepted → ⊥) → eqb (numberOf a) 0 ≡ false
+refusal-number a z = ne-eqb (numberOf a) 0 (λ e. z (number-told a Accepted e))
 
 -- a number that was tested against 0 tells acceptance
 module _ (a : Answer) (n : ℕ) (q : n ≡ numberOf a) where

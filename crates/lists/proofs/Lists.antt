@@ -2,12 +2,14 @@
 use mathlib.Core.Path.{_≡_, refl, sym, _∙_}
 use mathlib.Core.List.{List, [], _++_, append-assoc, append-nil}
 use Prim.Native.Nat.{ℕ, zero, suc, _+_, _-_, _*_, _<_, _≤_}
-use native.Mathlib.Nat.{zero-add, le-of-eq, suc-mul, zero-mul, add-sub-cancel-left, le-antisymm, mul-le-mul-right}
+use native.Mathlib.Nat.{not-suc-le-zero, zero-add, le-of-eq, suc-mul, zero-mul, add-sub-cancel-left, le-antisymm, mul-le-mul-right}
+use native.Mathlib.Omega.{arith}
+use native.Mathlib.Decide.{decLt}
 use native.Mathlib.Numerals.{add-one}
-use lib.ListN.{length, take, drop, length-append, take-append-drop, drop-of-length-le}
-use lib.Seq.{sets, sets-eq, take-at, drop-at, drop-drop, length-take-le}
+use lib.ListN.{length, take, drop, length-append, length-take, length-drop, take-append-drop, drop-of-length-le, List·getD-append}
+use lib.Seq.{sets, sets-eq, take-at, drop-at, drop-drop, length-take-le, take-add, getD-append-add, getD-take, getD-drop}
 use borrow.Rule.Slice.PartMut.{putMid}
-use Rattle.lists.specs.Lists.{put, upTo}
+use Rattle.lists.specs.Lists.{byte, put, upTo}
 
 -- ---- products, for omega's list
 
@@ -50,6 +52,35 @@ put-more d s t at h =
     )
     (simp append-assoc)
 
+pub put-length : (d s : List ℕ) (at : ℕ) → at + length s ≤ length d → length (put d at s) ≡ length d
+unfolding put
+put-length d s at h = simp (length-append, length-take, length-drop) (omega arith)
+
+-- past a list of n elements stands the next
+pub skip : (p q : List ℕ) (n j : ℕ) → length p ≡ n → byte (p ++ q) (n + j) ≡ byte q j
+skip p q n j h = rw (← h) (getD-append-add p q j 0)
+
+module _ (d s : List ℕ) (at : ℕ) (h : at ≤ length d) where
+  pub put-before : (i : ℕ) → i < at → byte (put d at s) i ≡ byte d i
+  unfolding put
+  put-before i l = List·getD-append (take at d) _ 0 i (rw (length-take-le at d h) l) ∙ getD-take at d i 0 l
+
+  pub put-inside : (j : ℕ) → j < length s → byte (put d at s) (at + j) ≡ byte s j
+  unfolding put
+  put-inside j l = skip (take at d) _ at j (length-take-le at d h) ∙ List·getD-append s _ 0 j l
+
+  pub put-after : (i : ℕ) → at + length s ≤ i → byte (put d at s) i ≡ byte d i
+  unfolding put
+  put-after i l =
+      let j = i - (at + length s) in
+      let e : i ≡ at + (length s + j) = omega arith in
+      rw e (
+      skip (take at d) _ at (length s + j) (length-take-le at d h)
+      ∙ skip s _ (length s) j refl
+      ∙ getD-drop (length s) (drop at d) j 0
+      ∙ getD-drop at d (length s + j) 0
+      )
+
 -- a part that was lent comes back as it was written
 pub lent : (xs ys : List ℕ) (a n : ℕ) → length ys ≡ n → putMid a n xs ys ≡ put xs a ys
 unfolding put
@@ -67,6 +98,17 @@ module _ (w : ℕ) (f : ℕ → List ℕ) (each : (k : ℕ) → length (f k) ≡
   upTo-length zero = sym (zero-mul w)
   upTo-length (suc n) = length-append (upTo n f) (f n) ∙ rw (upTo-length n, each n, suc-mul)
 
+  -- element j of the k-th
+  pub upTo-at : (n k j : ℕ) → k < n → j < w → byte (upTo n f) (k * w + j) ≡ byte (f k) j
+  unfolding upTo
+  upTo-at zero k j h l = absurd (not-suc-le-zero h)
+  upTo-at (suc n) k j h l = elim (decLt k n) [
+    | yes g ↦ List·getD-append (upTo n f) (f n) 0 (k * w + j) (rw (upTo-length n) (omega (arith, within k n w g))) ∙ upTo-at n k j g l
+    | no g ↦
+        let e : k ≡ n = omega arith in
+        rw e (skip (upTo n f) (f n) (n * w) j (upTo-length n))
+  ]
+
   -- a turn of the loop that writes one after the other: the n-th is lent out[a..e] and written there
   pub turn : (d out ys : List ℕ) (at n a e : ℕ) → out ≡ put d at (upTo n f) → ys ≡ f n → a ≡ at + n * w → e ≡ a + w → at ≤ length d
       → putMid a (e - a) out ys ≡ put d at (upTo (n + 1) f)
@@ -79,3 +121,11 @@ module _ (w : ℕ) (f : ℕ → List ℕ) (each : (k : ℕ) → length (f k) ≡
   -- after the loop over the whole of d
   pub filled : (d out : List ℕ) (n k : ℕ) → out ≡ put d 0 (upTo k f) → k ≤ n → n ≤ k → length d ≡ n * w → out ≡ upTo n f
   filled d out n k p a b h = p ∙ rw (le-antisymm a b) (put-whole d (upTo n f) (h ∙ sym (upTo-length n)))
+
+-- parts of d, one after the other, are one part
+pub upTo-run : (w a n : ℕ) (d : List ℕ) (f : ℕ → List ℕ) → ((k : ℕ) → k < n → f k ≡ take w (drop (a + k * w) d))
+    → upTo n f ≡ take (n * w) (drop a d)
+unfolding upTo
+upTo-run w a zero d f h = rw (zero-mul w)
+upTo-run w a (suc n) d f h =
+    rw (upTo-run w a n d f (λ k l. h k (omega arith)), h n (omega arith), suc-mul n w, take-add (n * w) w (drop a d), drop-drop (n * w) a d)

@@ -149,6 +149,11 @@ zeros-name : (k : ℕ) → nameOf (replicate k 0) ≡ []
 zeros-name zero = name-nil
 zeros-name (suc k) = name-stop (replicate k 0)
 
+-- zeros alone are no name
+pub zeros-bad : (k : ℕ) → goodName (replicate k 0) ≡ false
+unfolding goodName
+zeros-bad k = rw (zeros-name k)
+
 name-before : (n z : List ℕ) → nameOf z ≡ [] → nameOf (nameOf n ++ z) ≡ nameOf n
 name-before [] z e = rw name-nil e
 name-before (zero ∷ xs) z e = rw (name-stop xs) e

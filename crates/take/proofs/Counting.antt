@@ -1,0 +1,166 @@
+-- The tally: one call raises one count and no other, and over every history each count is the lesser of its top and the calls so answered.
+use mathlib.Core.Path.{_≡_, refl, sym, ap, _∙_}
+use mathlib.Core.Bool.{true, false}
+use mathlib.Core.List.{List, [], _∷_}
+use Prim.Native.Nat.{ℕ, zero, suc, _+_, _≤_, _<_, min}
+use native.Mathlib.Omega.{arith}
+use native.Mathlib.Nat.{not-suc-le-zero, le-of-suc-le-suc}
+use lib.Dec.{eqb, ltb, lit<}
+use lib.ListN.{length, getD, set, replicate, length-set, getD-replicate, length-replicate}
+use lib.Seq.{getD-set-same, getD-set-other}
+use borrow.Author.Tests.{eqb-true, eqb-false, ltb-true, ltb-false, lt-ltb, le-ltb, eq-eqb, ne-eqb}
+use Rattle.lists.specs.Tables.{choose}
+use Rattle.lists.proofs.Tables.{by-test}
+use Rattle.answers.specs.declared.Answer.{Answer}
+use Rattle.answers.specs.declared.Answer.the-variants.{Accepted, Short, Long, Foreign, Name, OtherStream, SubProtocol, Codec, Reserved, Rate, DataType, Length, Channels, Shape, Late, Beyond, State}
+use Rattle.answers.proofs.Numbers.{told}
+use Rattle.take.specs.declared.Tally.{Tally}
+use Rattle.take.specs.Tally.{countOf, cleared, oneMore, raisedOf}
+use Rattle.take.specs.Follow.{followOf}
+use Rattle.take.specs.History.{Call, answerTo, tallyAfter, answeredSo, sum}
+
+-- ---- an answer's count
+
+abbrev counted : ℕ → Answer
+counted n = getD (Accepted ∷ Short ∷ Long ∷ Foreign ∷ Name ∷ OtherStream ∷ SubProtocol ∷ Codec ∷ Reserved ∷ Rate ∷ DataType ∷ Length ∷ Channels ∷ Shape ∷ Late ∷ Beyond ∷ State ∷ []) n Accepted
+
+counted-back : (a : Answer) → counted (countOf a) ≡ a
+counted-back Accepted = refl
+counted-back Short = refl
+counted-back Long = refl
+counted-back Foreign = refl
+counted-back Name = refl
+counted-back OtherStream = refl
+counted-back SubProtocol = refl
+counted-back Codec = refl
+counted-back Reserved = refl
+counted-back Rate = refl
+counted-back DataType = refl
+counted-back Length = refl
+counted-back Channels = refl
+counted-back Shape = refl
+counted-back Late = refl
+counted-back Beyond = refl
+counted-back State = refl
+
+-- each answer has a count of its own
+pub count-told : (a b : Answer) → countOf a ≡ countOf b → a ≡ b
+count-told = told countOf counted counted-back
+
+count-lt : (a : Answer) → countOf a < 17
+count-lt Accepted = lit< tt
+count-lt Short = lit< tt
+count-lt Long = lit< tt
+count-lt Foreign = lit< tt
+count-lt Name = lit< tt
+count-lt OtherStream = lit< tt
+count-lt SubProtocol = lit< tt
+count-lt Codec = lit< tt
+count-lt Reserved = lit< tt
+count-lt Rate = lit< tt
+count-lt DataType = lit< tt
+count-lt Length = lit< tt
+count-lt Channels = lit< tt
+count-lt Shape = lit< tt
+count-lt Late = lit< tt
+count-lt Beyond = lit< tt
+count-lt State = lit< tt
+
+-- ---- one call
+
+module _ (t : Tally) (a : Answer) (l : length (t .counts) ≡ 17) where
+  pub raised-length : length (raisedOf t a .counts) ≡ 17
+  raised-length = rw length-set l
+
+  -- one count is raised
+  pub raised-one : getD (raisedOf t a .counts) (countOf a) 0 ≡ oneMore (getD (t .counts) (countOf a) 0)
+  raised-one = getD-set-same (t .counts) (countOf a) (oneMore (getD (t .counts) (countOf a) 0)) 0 (omega (arith, count-lt a))
+
+  -- and no other
+  pub raised-no-other : (b : Answer) → (b ≡ a → ⊥) → getD (raisedOf t a .counts) (countOf b) 0 ≡ getD (t .counts) (countOf b) 0
+  raised-no-other b z =
+      getD-set-other (t .counts) (countOf a) (countOf b) (oneMore (getD (t .counts) (countOf a) 0)) 0 (λ e. z (count-told b a e))
+
+-- ---- a history
+
+abbrev top : ℕ
+top = 4294967295
+
+one-more-top : (n k : ℕ) → n ≤ top → min top (oneMore n + k) ≡ min top (n + suc k)
+one-more-top n k h =
+    by-test (λ b. ltb n top ≡ b → min top (choose b (n + 1) n + k) ≡ min top (n + suc k)) (ltb n top)
+    (λ e p. omega arith) (λ e p. let l : top ≤ n = ltb-false n top p in omega arith) refl
+
+one-more-le : (n : ℕ) → n ≤ top → oneMore n ≤ top
+one-more-le n h =
+    by-test (λ b. ltb n top ≡ b → choose b (n + 1) n ≤ top) (ltb n top) (λ e p. let l : n < top = ltb-true n top p in omega arith) (λ e p. h) refl
+
+tally-is : (c : Call) (t : Tally) → followOf (c .take) t (c .address) (c .datagram) (c .track) .tally ≡ raisedOf t (answerTo c)
+unfolding followOf
+tally-is c t = refl
+
+module _ (a : Answer) where
+  raised-le : (t : Tally) (b : Answer) → length (t .counts) ≡ 17 → getD (t .counts) (countOf a) 0 ≤ top → getD (raisedOf t b .counts) (countOf a) 0 ≤ top
+  raised-le t b l h =
+      by-test (λ x. eqb (countOf b) (countOf a) ≡ x → getD (raisedOf t b .counts) (countOf a) 0 ≤ top) (eqb (countOf b) (countOf a))
+      (λ e p. rw (count-told b a (eqb-true _ _ p), raised-one t a l) (one-more-le _ h))
+      (λ e p. rw (raised-no-other t b l a (λ q. eqb-false _ _ p (ap countOf (sym q)))) h)
+      refl
+
+  -- from any tally whose counts are counts
+  after : (calls : List Call) (t : Tally) → length (t .counts) ≡ 17 → getD (t .counts) (countOf a) 0 ≤ top
+      → getD (tallyAfter t calls .counts) (countOf a) 0 ≡ min top (getD (t .counts) (countOf a) 0 + answeredSo a calls)
+  after [] t l h = omega arith
+  after (c ∷ calls) t l h =
+      ap (λ (x : Tally). getD (tallyAfter x calls .counts) (countOf a) 0) (tally-is c t)
+      ∙ after calls (raisedOf t (answerTo c)) (raised-length t (answerTo c) l) (raised-le t (answerTo c) l h)
+      ∙ by-test
+      (λ b. eqb (countOf (answerTo c)) (countOf a) ≡ b
+      → min top (getD (raisedOf t (answerTo c) .counts) (countOf a) 0 + answeredSo a calls)
+      ≡ min top (getD (t .counts) (countOf a) 0 + choose b (suc (answeredSo a calls)) (answeredSo a calls)))
+      (eqb (countOf (answerTo c)) (countOf a))
+      (λ e p. let q : answerTo c ≡ a = count-told _ _ (eqb-true _ _ p) in
+      rw (q, raised-one t a l) (one-more-top (getD (t .counts) (countOf a) 0) (answeredSo a calls) h))
+      (λ e p. rw (raised-no-other t (answerTo c) l a (λ q. eqb-false _ _ p (ap countOf (sym q)))))
+      refl
+
+  -- THE TALLY: from a cleared one, each count is the lesser of its top and the number of calls so answered
+  pub tally-counts : (calls : List Call) → getD (tallyAfter cleared calls .counts) (countOf a) 0 ≡ min top (answeredSo a calls)
+  tally-counts calls =
+      let z : getD (cleared .counts) (countOf a) 0 ≡ 0 = getD-replicate 17 (countOf a) 0 0 (count-lt a) in
+      after calls cleared refl (omega arith) ∙ ap (λ (n : ℕ). min top (n + answeredSo a calls)) z ∙ omega arith
+
+  -- document 01's sentence: below the top, the count is that number
+  pub tally-below : (calls : List Call) → answeredSo a calls ≤ top → getD (tallyAfter cleared calls .counts) (countOf a) 0 ≡ answeredSo a calls
+  tally-below calls h = tally-counts calls ∙ omega arith
+
+-- ---- the counts add up to the calls made
+
+sum-set : (l : List ℕ) (i v : ℕ) → i < length l → sum (set l i v) + getD l i 0 ≡ sum l + v
+sum-set [] i v h = absurd (not-suc-le-zero h)
+sum-set (x ∷ l) zero v h = omega arith
+sum-set (x ∷ l) (suc i) v h = omega (arith, sum-set l i v (le-of-suc-le-suc h))
+
+in-sum : (l : List ℕ) (i : ℕ) → getD l i 0 ≤ sum l
+in-sum [] i = omega arith
+in-sum (x ∷ l) zero = omega arith
+in-sum (x ∷ l) (suc i) = omega (arith, in-sum l i)
+
+raised-sum : (t : Tally) (a : Answer) → length (t .counts) ≡ 17 → sum (t .counts) < top → sum (raisedOf t a .counts) ≡ suc (sum (t .counts))
+raised-sum t a l h =
+    let n = getD (t .counts) (countOf a) 0 in
+    let m : n < top = omega (arith, in-sum (t .counts) (countOf a)) in
+    let e : oneMore n ≡ n + 1 = rw (lt-ltb n top m) in
+    omega (arith, e, sum-set (t .counts) (countOf a) (oneMore n) (omega (arith, count-lt a)))
+
+sums : (calls : List Call) (t : Tally) → length (t .counts) ≡ 17 → sum (t .counts) + length calls ≤ top
+    → sum (tallyAfter t calls .counts) ≡ sum (t .counts) + length calls
+sums [] t l h = omega arith
+sums (c ∷ calls) t l h =
+    let s = raised-sum t (answerTo c) l (omega arith) in
+    ap (λ (x : Tally). sum (tallyAfter x calls .counts)) (tally-is c t)
+    ∙ sums calls (raisedOf t (answerTo c)) (raised-length t (answerTo c) l) (omega arith)
+    ∙ omega arith
+
+pub tally-sum : (calls : List Call) → length calls ≤ top → sum (tallyAfter cleared calls .counts) ≡ length calls
+tally-sum calls h = sums calls cleared refl (omega arith) ∙ omega arith

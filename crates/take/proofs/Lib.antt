@@ -1,0 +1,8 @@
+pub mod Checks
+pub mod Judging
+pub mod Counting
+pub mod Exactly
+pub mod Following
+pub mod Wraps
+pub mod Examples
+pub mod Records

@@ -1,0 +1,6 @@
+pub mod Packing
+pub mod Spelling
+pub mod Laying
+pub mod Laws
+pub mod Copying
+pub mod Examples

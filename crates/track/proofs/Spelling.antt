@@ -1,0 +1,93 @@
+-- A sample's bytes spell its bits, over the type.
+use mathlib.Core.Path.{_≡_, refl, sym, _∙_}
+use mathlib.Core.List.{List, [], _∷_, _++_}
+use Prim.Native.Nat.{ℕ, zero, suc, _+_, _^_, _≤_, _<_}
+use native.Mathlib.Nat.{add-zero, add-assoc}
+use native.Mathlib.Numerals.{add-one}
+use native.Mathlib.Omega.{arith}
+use lib.Dec.{lit<}
+use lib.ListN.{length, take, drop, List·getD-append}
+use lib.Seq.{drop-cons, getD-append-add}
+use Rattle.lists.specs.Lists.{byte}
+use Rattle.samples.specs.declared.Format.{Format}
+use Rattle.samples.specs.declared.Format.the-variants.{Unsigned8, Signed16, Signed24, Signed32}
+use Rattle.samples.specs.Formats.{widthOf, sizeOf}
+use Rattle.track.specs.Bytes.{sampleAt, sampleBytes}
+use Rattle.track.proofs.Packing.{cons}
+
+pub bytes-length : (f : Format) (u : ℕ) → length (sampleBytes f u) ≡ sizeOf f
+bytes-length Unsigned8 u = refl
+bytes-length Signed16 u = refl
+bytes-length Signed24 u = refl
+bytes-length Signed32 u = refl
+
+-- what stands at a is the sample whose bytes stand there
+pub spelled : (f : Format) (d : List ℕ) (a u : ℕ) → u < 2 ^ widthOf f → ((j : ℕ) → j < sizeOf f → byte d (a + j) ≡ byte (sampleBytes f u) j)
+    → sampleAt f d a ≡ u
+spelled Unsigned8 d a u l h = rw (add-zero a) at (h 0 (lit< tt))
+spelled Signed16 d a u l h = let e = rw (add-zero a) at (h 0 (lit< tt)) in rw (e, h 1 (lit< tt)) (omega arith)
+spelled Signed24 d a u l h = let e = rw (add-zero a) at (h 0 (lit< tt)) in rw (e, h 1 (lit< tt), h 2 (lit< tt)) (omega arith)
+spelled Signed32 d a u l h = let e = rw (add-zero a) at (h 0 (lit< tt)) in rw (e, h 1 (lit< tt), h 2 (lit< tt), h 3 (lit< tt)) (omega arith)
+
+-- the same samples where the same bytes stand
+pub same-sample : (f : Format) (d e : List ℕ) (a b : ℕ) → ((j : ℕ) → j < sizeOf f → byte d (a + j) ≡ byte e (b + j)) → sampleAt f d a ≡ sampleAt f e b
+same-sample Unsigned8 d e a b h = rw (add-zero a, add-zero b) at (h 0 (lit< tt))
+same-sample Signed16 d e a b h = let g = rw (add-zero a, add-zero b) at (h 0 (lit< tt)) in rw (g, h 1 (lit< tt))
+same-sample Signed24 d e a b h = let g = rw (add-zero a, add-zero b) at (h 0 (lit< tt)) in rw (g, h 1 (lit< tt), h 2 (lit< tt))
+same-sample Signed32 d e a b h = let g = rw (add-zero a, add-zero b) at (h 0 (lit< tt)) in rw (g, h 1 (lit< tt), h 2 (lit< tt), h 3 (lit< tt))
+
+pub sample-there : (f : Format) (a b : List ℕ) (u : ℕ) → u < 2 ^ widthOf f → sampleAt f (a ++ (sampleBytes f u ++ b)) (length a) ≡ u
+sample-there f a b u l = spelled f _ (length a) u l (λ j h.
+    getD-append-add a (sampleBytes f u ++ b) j 0 ∙ List·getD-append (sampleBytes f u) b 0 j (rw (bytes-length f u) h))
+
+-- data after other data
+pub sample-after : (f : Format) (p d : List ℕ) (a : ℕ) → sampleAt f (p ++ d) (length p + a) ≡ sampleAt f d a
+sample-after f p d a = same-sample f (p ++ d) d (length p + a) a (λ j h. rw (add-assoc (length p) a j) (getD-append-add p d (a + j) 0))
+
+-- ---- bytes below 256
+
+pub sample-below : (f : Format) (d : List ℕ) (a : ℕ) → ((i : ℕ) → byte d i < 256) → sampleAt f d a < 2 ^ widthOf f
+sample-below Unsigned8 d a h = h a
+sample-below Signed16 d a h = omega (arith, h a, h (a + 1))
+sample-below Signed24 d a h = omega (arith, h a, h (a + 1), h (a + 2))
+sample-below Signed32 d a h = omega (arith, h a, h (a + 1), h (a + 2), h (a + 3))
+
+abbrev AllBelow : List ℕ → Type 0
+AllBelow [] = Unit {0}
+AllBelow (x ∷ xs) = (x < 256) × AllBelow xs
+
+all-below : (xs : List ℕ) → AllBelow xs → (i : ℕ) → byte xs i < 256
+all-below [] h i = lit< tt
+all-below (x ∷ xs) h zero = h .0
+all-below (x ∷ xs) h (suc i) = all-below xs (h .1) i
+
+pub bytes-below : (f : Format) (u i : ℕ) → u < 2 ^ widthOf f → byte (sampleBytes f u) i < 256
+bytes-below Unsigned8 u i l = all-below (sampleBytes Unsigned8 u) (l, tt) i
+bytes-below Signed16 u i l = all-below (sampleBytes Signed16 u) (omega arith, (omega arith, tt)) i
+bytes-below Signed24 u i l = all-below (sampleBytes Signed24 u) (omega arith, (omega arith, (omega arith, tt))) i
+bytes-below Signed32 u i l = all-below (sampleBytes Signed32 u) (omega arith, (omega arith, (omega arith, (omega arith, tt)))) i
+
+-- ---- the bytes that a sample is read from
+
+first : (d : List ℕ) (a n : ℕ) → a < length d → take (suc n) (drop a d) ≡ byte d a ∷ take n (drop (a + 1) d)
+first d a n h = rw (drop-cons d a 0 h, add-one a)
+
+later : (d : List ℕ) (a i n : ℕ) → a + i < length d → take (suc n) (drop (a + i) d) ≡ byte d (a + i) ∷ take n (drop (a + suc i) d)
+later d a i n h = let e : suc (a + i) ≡ a + suc i = omega arith in rw (drop-cons d (a + i) 0 h, e)
+
+pub bytes-back : (f : Format) (d : List ℕ) (a : ℕ) → a + sizeOf f ≤ length d → ((i : ℕ) → byte d i < 256)
+    → sampleBytes f (sampleAt f d a) ≡ take (sizeOf f) (drop a d)
+bytes-back Unsigned8 d a l h = sym (first d a 0 (omega arith))
+bytes-back Signed16 d a l h =
+    let h0 = h a in let h1 = h (a + 1) in
+    cons (omega arith) (cons (omega arith) refl)
+    ∙ sym (first d a 1 (omega arith) ∙ cons refl (later d a 1 0 (omega arith)))
+bytes-back Signed24 d a l h =
+    let h0 = h a in let h1 = h (a + 1) in let h2 = h (a + 2) in
+    cons (omega arith) (cons (omega arith) (cons (omega arith) refl))
+    ∙ sym (first d a 2 (omega arith) ∙ cons refl (later d a 1 1 (omega arith) ∙ cons refl (later d a 2 0 (omega arith))))
+bytes-back Signed32 d a l h =
+    let h0 = h a in let h1 = h (a + 1) in let h2 = h (a + 2) in let h3 = h (a + 3) in
+    cons (omega arith) (cons (omega arith) (cons (omega arith) (cons (omega arith) refl)))
+    ∙ sym (first d a 3 (omega arith)
+    ∙ cons refl (later d a 1 2 (omega arith) ∙ cons refl (later d a 2 1 (omega arith) ∙ cons refl (later d a 3 0 (omega arith)))))

@@ -1,0 +1,41 @@
+-- A record a turn, each in the part of the track that it is lent.
+use Prim.Native.Nat.{_+_, _*_, _-_, _≤_}
+use native.Mathlib.Omega.{arith}
+use lib.ListN.{length}
+use borrow.Author.Needs.{needs}
+use Rattle.samples.specs.declared.Format.the-variants.{Signed32}
+use Rattle.track.proofs.Laying.{Laying, start, room, next, end}
+use Rattle.track.proofs.lay32.some.Statement.{statement}
+use Rattle.track.proofs.lay32.some.Tie as tie
+
+abbrev Inv : tie.InvT-loop
+Inv d from frames channels track₀ place step k₀ at₀ a₀ track k at a = Laying Signed32 d from frames channels track₀ place track k at a
+
+abbrev μ : tie.MeasureT-loop
+μ d from frames channels track₀ place step k₀ at₀ a₀ track k at a = frames - k
+
+has : (c : tie.In-loop Inv μ) →
+    let a = c .before .before .before .before .args in
+    c .before .loop .at + a .channels * 4 ≤ length (a .d .now)
+has c = search (room Signed32)
+
+pub some-spec : {M : Type 1} → statement M
+some-spec =
+    tie.close
+    (tie.spec
+    Inv
+    μ
+    (λ c. search needs)
+    (λ c. search needs)
+    (λ c. search start)
+    (λ c. search needs)
+    (λ c. search needs)
+    (λ c. search needs)
+    (λ c. search needs)
+    (λ c κs. (search needs, omega (arith, has (c .before)), omega (arith, c .frame-arg .given .2)))
+    (λ c. omega (arith, has (c .before .before .before .before)))
+    (λ c. search needs)
+    (λ c. search needs)
+    (λ c. search (next Signed32))
+    (λ c. search needs)
+    (λ c. search end))

@@ -1,0 +1,125 @@
+-- Taking out, over the type: a slot as a sample, the loop over a frame's channels, and the loop over the frames.
+use mathlib.Core.Path.{_≡_, refl, sym, ap, _∙_}
+use mathlib.Core.List.{List}
+use Prim.Native.Nat.{ℕ, _+_, _*_, _-_, _≤_, _<_, zero-le}
+use native.Mathlib.Nat.{le-antisymm, zero-add}
+use native.Mathlib.Omega.{arith}
+use lib.ListN.{length}
+use lib.Seq.{sets}
+use borrow.Rule.Slice.PartMut.{putMid}
+use Rattle.lists.specs.Lists.{put, upTo}
+use Rattle.lists.proofs.Lists.{upTo-length, put-none, put-length, turn, filled, stored, within, one-more}
+use Rattle.samples.specs.declared.Format.{Format}
+use Rattle.samples.specs.declared.Format.the-variants.{Unsigned8, Signed16, Signed24, Signed32}
+use Rattle.samples.specs.Formats.{sizeOf}
+use Rattle.samples.specs.Wire.{sentOf}
+use Rattle.track.specs.Bytes.{sampleAt, sampleBytes}
+use Rattle.track.specs.Records.{takenOf}
+use Rattle.track_out.specs.Frames.{sentAt, frameOut}
+use Rattle.track.proofs.Laws.{bytes-length, taken-length}
+
+-- a sample's bytes stored over the whole of what was lent
+pub stored-sample : (f : Format) (out : List ℕ) (v : ℕ) → length out ≡ sizeOf f → sets out 0 (sampleBytes f v) ≡ sampleBytes f v
+stored-sample Unsigned8 out v h = stored out (sampleBytes Unsigned8 v) h
+stored-sample Signed16 out v h = stored out (sampleBytes Signed16 v) h
+stored-sample Signed24 out v h = stored out (sampleBytes Signed24 v) h
+stored-sample Signed32 out v h = stored out (sampleBytes Signed32 v) h
+
+module _ (f : Format) (t : List ℕ) (at : ℕ) where
+  pub sent : (c s r : ℕ) → s ≡ sampleAt Signed24 t (at + c * 3) → r ≡ sentOf f s → r ≡ sentAt f t at c
+  unfolding sentAt
+  sent c s r p q = q ∙ ap (sentOf f) p
+
+  pub frame-length : (channels : ℕ) → length (frameOut f t at channels) ≡ channels * sizeOf f
+  unfolding frameOut
+  frame-length channels = upTo-length (sizeOf f) (λ c. sampleBytes f (sentAt f t at c)) (λ c. bytes-length f (sentAt f t at c)) channels
+
+-- ---- the loop over the channels
+
+pub record Framing (f : Format) (t : List ℕ) (at channels : ℕ) (out₀ out : List ℕ) (c : ℕ) : Type 0 where
+  pub turns : c ≤ channels
+  pub same : length out ≡ channels * sizeOf f
+  pub so-far : out ≡ put out₀ 0 (frameOut f t at c)
+
+module _ (f : Format) (t : List ℕ) (at channels : ℕ) (out₀ : List ℕ) (h : length out₀ ≡ channels * sizeOf f) where
+  pub frame-start : Framing f t at channels out₀ out₀ 0
+  unfolding frameOut upTo
+  frame-start = record { turns = zero-le; same = h; so-far = put-none out₀ 0 }
+
+  module _ (out : List ℕ) (c : ℕ) (l : Framing f t at channels out₀ out c) where
+    more : (ys : List ℕ) → ys ≡ sampleBytes f (sentAt f t at c)
+        → putMid (c * sizeOf f) (c * sizeOf f + sizeOf f - c * sizeOf f) out ys ≡ put out₀ 0 (frameOut f t at (c + 1))
+    unfolding frameOut
+    more ys p =
+        turn (sizeOf f) (λ i. sampleBytes f (sentAt f t at i)) (λ i. bytes-length f (sentAt f t at i))
+        _ _ _ 0 _ _ _ (l .so-far) p (sym (zero-add (c * sizeOf f))) refl zero-le
+
+    pub frame-next : (v : ℕ) (ys : List ℕ) → c < channels → ys ≡ sampleBytes f v → v ≡ sentAt f t at c
+        → Framing f t at channels out₀ (putMid (c * sizeOf f) (c * sizeOf f + sizeOf f - c * sizeOf f) out ys) (c + 1)
+    frame-next v ys g p q =
+        let e = more ys (p ∙ ap (sampleBytes f) q) in
+        record {
+          turns = omega arith;
+          same = ap length e ∙ put-length out₀ (frameOut f t at (c + 1)) 0
+              (rw (frame-length f t at (c + 1), h) (omega (arith, within c channels (sizeOf f) g, one-more c (sizeOf f)))) ∙ h;
+          so-far = e;
+        }
+
+    pub frame-end : channels ≤ c → out ≡ frameOut f t at channels
+    unfolding frameOut
+    frame-end g =
+        filled (sizeOf f) (λ i. sampleBytes f (sentAt f t at i)) (λ i. bytes-length f (sentAt f t at i))
+        _ _ _ _ (l .so-far) (l .turns) g h
+
+-- ---- the loop over the frames
+
+-- after k turns: k frames written, the next read at at and written at a
+pub record Taking (f : Format) (t : List ℕ) (first frames channels : ℕ) (out₀ : List ℕ) (place : ℕ) (out : List ℕ) (k at a : ℕ) : Type 0 where
+  pub turns : k ≤ frames
+  pub same : length out ≡ length out₀
+  pub reads : at ≡ (first + k) * 24
+  pub writes : a ≡ place + k * (channels * sizeOf f)
+  pub so-far : out ≡ put out₀ place (takenOf f t first k channels)
+
+module _ (f : Format) (t : List ℕ) (first frames channels : ℕ) (out₀ : List ℕ) (place : ℕ) where
+  pub start : Taking f t first frames channels out₀ place out₀ 0 (first * 24) place
+  unfolding takenOf upTo
+  start = record { turns = zero-le; same = refl; reads = omega arith; writes = omega arith; so-far = put-none out₀ place }
+
+  module _ (out : List ℕ) (k at a : ℕ) (l : Taking f t first frames channels out₀ place out k at a) where
+    -- in a turn there is room for the frame that is written
+    pub room : k < frames → place + frames * (channels * sizeOf f) ≤ length out₀ → a + channels * sizeOf f ≤ length out₀
+    room h m = omega (arith, within k frames (channels * sizeOf f) h)
+
+    next-frame : (ys : List ℕ) → ys ≡ frameOut f t at channels → place + frames * (channels * sizeOf f) ≤ length out₀
+        → putMid a (a + channels * sizeOf f - a) out ys ≡ put out₀ place (takenOf f t first (k + 1) channels)
+    unfolding takenOf frameOut sentAt
+    next-frame ys p m =
+        turn (channels * sizeOf f) (λ j. frameOut f t ((first + j) * 24) channels) (λ j. frame-length f t ((first + j) * 24) channels)
+        _ _ _ _ _ _ _ (l .so-far) (p ∙ rw (l .reads)) (l .writes) refl (omega arith)
+
+    pub next : (ys : List ℕ) → k < frames → place + frames * (channels * sizeOf f) ≤ length out₀ → ys ≡ frameOut f t at channels
+        → Taking f t first frames channels out₀ place (putMid a (a + channels * sizeOf f - a) out ys) (k + 1) (at + 24) (a + channels * sizeOf f)
+    next ys h m p =
+        let e = next-frame ys p m in
+        let o = one-more k (channels * sizeOf f) in
+        record {
+          turns = omega arith;
+          same = ap length e ∙ put-length out₀ (takenOf f t first (k + 1) channels) place
+              (rw (taken-length f t first (k + 1) channels) (omega (arith, within k frames (channels * sizeOf f) h)));
+          reads = omega arith;
+          writes = omega arith;
+          so-far = e;
+        }
+
+    pub end : frames ≤ k → out ≡ put out₀ place (takenOf f t first frames channels)
+    end h = l .so-far ∙ rw (le-antisymm (l .turns) h)
+
+-- a call for a count that is a literal, or for a type
+pub for-count : (f : Format) (t : List ℕ) (first frames channels n : ℕ) (out₀ out : List ℕ) (at : ℕ) → channels ≡ n
+    → out ≡ put out₀ at (takenOf f t first frames n) → out ≡ put out₀ at (takenOf f t first frames channels)
+for-count f t first frames channels n out₀ out at e p = rw e p
+
+pub for-type : (g f : Format) (t : List ℕ) (first frames channels : ℕ) (out₀ out : List ℕ) (at : ℕ) → f ≡ g
+    → out ≡ put out₀ at (takenOf g t first frames channels) → out ≡ put out₀ at (takenOf f t first frames channels)
+for-type g f t first frames channels out₀ out at e p = rw e p

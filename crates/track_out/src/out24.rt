@@ -1,0 +1,86 @@
+// Taking signed samples of 24 bits out.
+ghost use mathlib.Core.Path.{_≡_};
+ghost use Prim.Native.Nat.{_+_, _*_, _<_, _≤_};
+ghost use lib.ListN.{length};
+ghost use Rattle.samples.specs.declared.Format.the-variants.{Signed24};
+ghost use Rattle.lists.specs.Lists.{put};
+ghost use Rattle.track.specs.Records.{takenOf};
+ghost use Rattle.track_out.specs.Frames.{sentAt, frameOut};
+use crate::words;
+use samples::slots;
+
+const SIZE: usize = 3;
+
+// Slot `c` of the record at `at`, as a sample.
+fn sample(track: &[u8], at: usize, c: usize) -> u32
+    requires { ⌜ (c < 8) × (at + 24 ≤ length (now track)) ⌝ }
+    ensures { λ r. ⌜ (r ≡ sentAt Signed24 (now (track .entry)) at c) × (r < 16777216) ⌝ }
+{
+    slots::to_signed24(words::slot(track, at, c))
+}
+
+fn frame(track: &[u8], at: usize, channels: usize, out: &mut [u8])
+    requires { ⌜ (channels ≤ 8) × (at + 24 ≤ length (now track)) × (length (now out) ≡ channels * 3) ⌝ }
+    ensures { λ _. ⌜ now (out .exit) ≡ frameOut Signed24 (now (track .entry)) at channels ⌝ }
+{
+    let mut c = 0;
+    while c < channels {
+        let a = c * SIZE;
+        let e = a + SIZE;
+        let v = sample(track, at, c);
+        words::put3(&mut out[a..e], v);
+        c += 1;
+    }
+}
+
+// A frame a turn. Called with a literal count, the loop over the channels folds away.
+fn some(track: &[u8], first: usize, frames: usize, channels: usize, out: &mut [u8], at: usize)
+    requires { ⌜ (channels ≤ 8) × ((first + frames) * 24 ≤ length (now track)) × (at + frames * (channels * 3) ≤ length (now out)) ⌝ }
+    ensures { λ _. ⌜ now (out .exit) ≡ put (now (out .entry)) at (takenOf Signed24 (now (track .entry)) first frames channels) ⌝ }
+{
+    let step = channels * SIZE;
+    let mut k = 0;
+    let mut from = first * 24;
+    let mut a = at;
+    while k < frames {
+        let e = a + step;
+        frame(track, from, channels, &mut out[a..e]);
+        from += 24;
+        a = e;
+        k += 1;
+    }
+}
+
+// Eight channels of 24 bits are the record, byte for byte.
+fn full(track: &[u8], first: usize, frames: usize, out: &mut [u8], at: usize)
+    requires { ⌜ ((first + frames) * 24 ≤ length (now track)) × (at + frames * (8 * 3) ≤ length (now out)) ⌝ }
+    ensures { λ _. ⌜ now (out .exit) ≡ put (now (out .entry)) at (takenOf Signed24 (now (track .entry)) first frames 8) ⌝ }
+{
+    track::words::copy(track, first * 24, frames * 24, out, at);
+}
+
+pub fn take_out(
+    track: &[u8],
+    first: usize,
+    frames: usize,
+    channels: usize,
+    out: &mut [u8],
+    at: usize,
+)
+    requires { ⌜ (channels ≤ 8) × ((first + frames) * 24 ≤ length (now track)) × (at + frames * (channels * 3) ≤ length (now out)) ⌝ }
+    ensures { λ _. ⌜ now (out .exit) ≡ put (now (out .entry)) at (takenOf Signed24 (now (track .entry)) first frames channels) ⌝ }
+{
+    if channels == 2 {
+        some(track, first, frames, 2, out, at);
+        return;
+    }
+    if channels == 8 {
+        full(track, first, frames, out, at);
+        return;
+    }
+    if channels == 1 {
+        some(track, first, frames, 1, out, at);
+        return;
+    }
+    some(track, first, frames, channels, out, at);
+}

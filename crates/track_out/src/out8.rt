@@ -1,0 +1,78 @@
+// Taking unsigned samples of 8 bits out.
+ghost use mathlib.Core.Path.{_≡_};
+ghost use Prim.Native.Nat.{_+_, _*_, _<_, _≤_};
+ghost use lib.ListN.{length};
+ghost use Rattle.samples.specs.declared.Format.the-variants.{Unsigned8};
+ghost use Rattle.lists.specs.Lists.{put};
+ghost use Rattle.track.specs.Records.{takenOf};
+ghost use Rattle.track_out.specs.Frames.{sentAt, frameOut};
+use crate::words;
+use samples::slots;
+
+const SIZE: usize = 1;
+
+// Slot `c` of the record at `at`, as a sample.
+fn sample(track: &[u8], at: usize, c: usize) -> u32
+    requires { ⌜ (c < 8) × (at + 24 ≤ length (now track)) ⌝ }
+    ensures { λ r. ⌜ (r ≡ sentAt Unsigned8 (now (track .entry)) at c) × (r < 256) ⌝ }
+{
+    slots::to_unsigned8(words::slot(track, at, c))
+}
+
+fn frame(track: &[u8], at: usize, channels: usize, out: &mut [u8])
+    requires { ⌜ (channels ≤ 8) × (at + 24 ≤ length (now track)) × (length (now out) ≡ channels * 1) ⌝ }
+    ensures { λ _. ⌜ now (out .exit) ≡ frameOut Unsigned8 (now (track .entry)) at channels ⌝ }
+{
+    let mut c = 0;
+    while c < channels {
+        let a = c * SIZE;
+        let e = a + SIZE;
+        let v = sample(track, at, c);
+        words::put1(&mut out[a..e], v);
+        c += 1;
+    }
+}
+
+// A frame a turn. Called with a literal count, the loop over the channels folds away.
+fn some(track: &[u8], first: usize, frames: usize, channels: usize, out: &mut [u8], at: usize)
+    requires { ⌜ (channels ≤ 8) × ((first + frames) * 24 ≤ length (now track)) × (at + frames * (channels * 1) ≤ length (now out)) ⌝ }
+    ensures { λ _. ⌜ now (out .exit) ≡ put (now (out .entry)) at (takenOf Unsigned8 (now (track .entry)) first frames channels) ⌝ }
+{
+    let step = channels * SIZE;
+    let mut k = 0;
+    let mut from = first * 24;
+    let mut a = at;
+    while k < frames {
+        let e = a + step;
+        frame(track, from, channels, &mut out[a..e]);
+        from += 24;
+        a = e;
+        k += 1;
+    }
+}
+
+pub fn take_out(
+    track: &[u8],
+    first: usize,
+    frames: usize,
+    channels: usize,
+    out: &mut [u8],
+    at: usize,
+)
+    requires { ⌜ (channels ≤ 8) × ((first + frames) * 24 ≤ length (now track)) × (at + frames * (channels * 1) ≤ length (now out)) ⌝ }
+    ensures { λ _. ⌜ now (out .exit) ≡ put (now (out .entry)) at (takenOf Unsigned8 (now (track .entry)) first frames channels) ⌝ }
+{
+    if channels == 2 {
+        some(track, first, frames, 2, out, at);
+        return;
+    }
+    if channels == 8 {
+        some(track, first, frames, 8, out, at);
+        return;
+    }
+    if channels == 1 {
+        some(track, first, frames, 1, out, at);
+        return;
+    }
+    some(track, first, frames, channels, out, at);
+}
