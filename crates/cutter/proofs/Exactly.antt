@@ -1,0 +1,140 @@
+-- Cutting answers as the paper's rules say.
+use mathlib.Core.Path.{_≡_, refl}
+use mathlib.Core.Logic.{_↔_}
+use mathlib.Core.Bool.{false, not}
+use mathlib.Core.List.{List, [], _∷_}
+use Prim.Native.Nat.{ℕ, _+_, _%_, _^_, _≤_, zero-le}
+use native.Mathlib.Omega.{arith}
+use lib.Dec.{ltb, leb, eqb}
+use lib.ListN.{length}
+use borrow.Author.Tests.{ltb-false, le-ltb, leb-true, leb-false, le-leb, lt-leb, eqb-true, eqb-false, ne-eqb, not-false}
+use Rattle.lists.specs.Lists.{put}
+use Rattle.lists.specs.Tables.{choose, outside}
+use Rattle.lists.specs.Rules.{AllHold, FirstBroken, Judges}
+use Rattle.lists.proofs.Tables.{by-test, none-holds, none-says, inside-by, by-inside}
+use Rattle.lists.proofs.Rules.{judged, judged-less, judged-unlike, none-answers, all-hold-exactly, first-broken-exactly}
+use Rattle.answers.specs.declared.Made.{Made}
+use Rattle.answers.specs.declared.Made.the-variants.{Done}
+use Rattle.answers.specs.Numbers.{numberMade}
+use Rattle.answers.proofs.Numbers.{made-told}
+use Rattle.samples.specs.Formats.{maySend}
+use Rattle.wire.specs.declared.header.Header.{Header}
+use Rattle.wire.specs.Names.{goodName}
+use Rattle.wire.specs.Header.{dataSize}
+use Rattle.wire.specs.Write.{badForm, writeRows, GoodForm, writeRules}
+use Rattle.wire.proofs.Names.{good-exactly}
+use Rattle.track.specs.Records.{recordsHeld}
+use Rattle.cutter.specs.Schedule.{Schedule}
+use Rattle.cutter.specs.Largest.{largestFrames}
+use Rattle.cutter.specs.Cut.{cutSchedule, packetHeader, cutPacket, badCut, badNumber, cutRows, cutAnswer, cutOf, cutOutput, GoodCut, GoodNumber, cutRules}
+
+-- ---- each row judges its rule
+
+module _ (h : Header) (short : length (h .name) ≤ 16) where
+  form-by : badForm h ≡ false → GoodForm h
+  form-by e =
+      let c = none-holds (ltb 20 (h .rate) ∷ not (maySend (h .format)) ∷ outside 256 (h .frames) ∷ outside 256 (h .channels) ∷ not (goodName (h .name)) ∷ []) e in
+      record {
+        rated = ltb-false _ _ (c .0);
+        typed = leb-true _ _ (not-false _ (c .1 .0));
+        frames-few = inside-by 256 _ (c .1 .1 .0);
+        channels-few = inside-by 256 _ (c .1 .1 .1 .0);
+        named = good-exactly (h .name) short .0 (not-false _ (c .1 .1 .1 .1 .0));
+      }
+
+  by-form : GoodForm h → badForm h ≡ false
+  by-form g =
+      rw (
+        le-ltb 20 (h .rate) (g .rated),
+        le-leb (h .format) 3 (g .typed),
+        by-inside 256 (h .frames) (g .frames-few),
+        by-inside 256 (h .channels) (g .channels-few),
+        good-exactly (h .name) short .1 (g .named),
+      )
+
+  cut-by : badCut h ≡ false → GoodCut h
+  cut-by e =
+      let c = none-holds (badForm h ∷ ltb 8 (h .channels) ∷ ltb (largestFrames (h .format) (h .channels)) (h .frames) ∷ []) e in
+      record { formed = form-by (c .0); channels-few = ltb-false _ _ (c .1 .0); no-larger = ltb-false _ _ (c .1 .1 .0) }
+
+  by-cut : GoodCut h → badCut h ≡ false
+  by-cut g =
+      rw (by-form (g .formed), le-ltb 8 (h .channels) (g .channels-few), le-ltb (largestFrames (h .format) (h .channels)) (h .frames) (g .no-larger))
+
+  write-judges : (given room : ℕ) → Judges (writeRows h given room) (writeRules h given room)
+  write-judges given room =
+      judged (badForm h) by-form form-by
+      (judged-less 1436 (dataSize h)
+      (judged-unlike given (dataSize h)
+      (judged-less room (28 + given) tt)))
+
+module _ (s : Schedule) (frames k : ℕ) where
+  number-by : badNumber s frames k ≡ false → GoodNumber s frames k
+  number-by e =
+      let c = none-holds (eqb frames 0 ∷ ltb (2 ^ 31) (s .packets) ∷ leb (s .packets) k ∷ []) e in
+      let z : frames ≡ 0 → ⊥ = eqb-false _ _ (c .0) in
+      record { some = omega arith; few = ltb-false _ _ (c .1 .0); below = leb-false _ _ (c .1 .1 .0) }
+
+  by-number : GoodNumber s frames k → badNumber s frames k ≡ false
+  by-number g =
+      rw (ne-eqb frames 0 (λ z. omega (arith, g .some)), le-ltb (2 ^ 31) (s .packets) (g .few), lt-leb (s .packets) k (g .below))
+
+-- ---- exactly when
+
+module _ (h : Header) (short : length (h .name) ≤ 16) (track : List ℕ) (k room : ℕ) where
+  judges : Judges (cutRows h track k room) (cutRules h track k room)
+  judges =
+      let s = cutSchedule h track in
+      let hk = packetHeader h s k in
+      judged (badCut h) (by-cut h short) (cut-by h short)
+      (judged-unlike (length track % 24) 0
+      (judged (badNumber s (recordsHeld track) k) (by-number s (recordsHeld track) k) (number-by s (recordsHeld track) k)
+      (write-judges hk short (dataSize hk) room)))
+
+  pub cut-done-exactly : cutAnswer h track k room ≡ Done ↔ AllHold (cutRules h track k room)
+  unfolding cutAnswer
+  cut-done-exactly =
+      all-hold-exactly Done (cutRows h track k room) (cutRules h track k room) judges
+      (none-answers Done (cutRows h track k room) (cutRules h track k room) judges (none-says Done numberMade (cutRows h track k room) tt))
+
+  pub cut-refused-exactly : (a : Made) → (a ≡ Done → ⊥) → cutAnswer h track k room ≡ a ↔ FirstBroken (cutRules h track k room) a
+  unfolding cutAnswer
+  cut-refused-exactly = first-broken-exactly Done (cutRows h track k room) (cutRules h track k room) judges
+
+-- ---- what comes with the answer
+
+module _ (h : Header) (track : List ℕ) (k : ℕ) (out : List ℕ) where
+  pub cut-answer : cutOf h track k out .answer ≡ cutAnswer h track k (length out)
+  unfolding cutOf
+  cut-answer = refl
+
+  module _ (a : Made) (e : a ≡ cutAnswer h track k (length out)) where
+    pub done-gives : a ≡ Done → cutOf h track k out ≡ record { answer = a; length = 28 + dataSize (packetHeader h (cutSchedule h track) k) }
+    unfolding cutOf
+    done-gives d = rw (← e, d)
+
+    pub done-output : a ≡ Done → cutOutput h track k out ≡ put out 0 (cutPacket h track k)
+    unfolding cutOutput
+    done-output d = rw (← e, d)
+
+    -- a refusal gives a zero length and leaves the output
+    module _ (other : a ≡ Done → ⊥) where
+      refusal-number : eqb (numberMade a) 0 ≡ false
+      refusal-number = ne-eqb (numberMade a) 0 (λ z. other (made-told a Done z))
+
+      pub refused-gives : cutOf h track k out ≡ record { answer = a; length = 0 }
+      unfolding cutOf
+      refused-gives = rw (← e, refusal-number)
+
+      pub refused-output : cutOutput h track k out ≡ out
+      unfolding cutOutput
+      refused-output = rw (← e, refusal-number)
+
+-- what is written lies within the output
+pub cut-within : (h : Header) (track : List ℕ) (k : ℕ) (out : List ℕ) → length (h .name) ≤ 16 → cutOf h track k out .length ≤ length out
+unfolding cutOf
+cut-within h track k out short =
+    let a = cutAnswer h track k (length out) in
+    let size = 28 + dataSize (packetHeader h (cutSchedule h track) k) in
+    by-test (λ b. choose b size 0 ≤ length out) (eqb (numberMade a) 0)
+    (λ t. cut-done-exactly h short track k (length out) .0 (made-told a Done (eqb-true _ _ t)) .1 .1 .1 .1 .1 .1 .0) (λ t. zero-le)

@@ -1,0 +1,47 @@
+// The largest N.
+ghost use mathlib.Core.Path.{_≡_};
+ghost use Rattle.cutter.specs.Largest.{largestFrames, largestOf};
+use answers::Made;
+use samples::Format;
+
+pub struct LargestAnswer {
+    pub answer: Made,
+    pub frames: u16,
+}
+
+// The lesser of 256 and 1,436 divided by the frame's bytes; 0 where a frame has none.
+pub(crate) fn frames(format: u8, channels: u16) -> u16
+    ensures { λ r. ⌜ r ≡ largestFrames format channels ⌝ }
+{
+    let bytes = channels as usize * Format::size_at(format);
+    if bytes == 0 {
+        return 0;
+    }
+    let n = 1436 / bytes;
+    if n > 256 {
+        return 256;
+    }
+    n as u16
+}
+
+// The most frames that a packet of the type and the channels can have.
+pub fn largest(format: u8, channels: u16) -> LargestAnswer
+    ensures { λ r. ⌜ r ≡ largestOf format channels ⌝ }
+{
+    if !Format::may_send(format) {
+        return LargestAnswer {
+            answer: Made::Form,
+            frames: 0,
+        };
+    }
+    if lists::is_outside(channels, 256) {
+        return LargestAnswer {
+            answer: Made::Form,
+            frames: 0,
+        };
+    }
+    LargestAnswer {
+        answer: Made::Done,
+        frames: frames(format, channels),
+    }
+}

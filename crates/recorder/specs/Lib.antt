@@ -1,0 +1,6 @@
+pub mod Took
+pub mod Shows
+pub mod Box
+pub mod Sender
+pub mod Bench
+pub mod Example
