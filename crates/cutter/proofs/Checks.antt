@@ -4,18 +4,16 @@ use mathlib.Core.Bool.{Bool, true, false}
 use mathlib.Core.List.{List}
 use Prim.Native.Nat.{ℕ, _+_, _-_, _%_, _≤_, _<_}
 use native.Mathlib.Nat.{div-zero}
-use lib.Dec.{ltb, leb, eqb}
+use lib.Dec.{ltb, leb}
 use lib.ListN.{length}
 use borrow.Author.Tests.{eq-eqb, ne-eqb, lt-ltb, le-ltb}
-use Rattle.lists.specs.Tables.{choose, first, unlike}
-use Rattle.lists.proofs.Tables.{by-test}
+use Rattle.lists.specs.Tables.{choose, first}
 use Rattle.lists.proofs.Branches.{less-yes, less-no}
 use Rattle.answers.specs.declared.Made.{Made}
-use Rattle.answers.specs.declared.Made.the-variants.{Done, Form, Big, Data, Room, Number}
-use Rattle.answers.specs.Numbers.{numberMade}
+use Rattle.answers.specs.declared.Made.the-variants.{Done, Form, Data, Number}
 use Rattle.wire.specs.declared.header.Header.{Header}
 use Rattle.wire.specs.Header.{dataSize}
-use Rattle.wire.specs.Write.{badForm, writeRows}
+use Rattle.wire.specs.Write.{writeRows}
 use Rattle.track.specs.Records.{recordsHeld}
 use Rattle.cutter.specs.Schedule.{scheduleOf}
 use Rattle.cutter.specs.Cut.{packetHeader, badCut, badNumber, cutAnswer}
@@ -39,21 +37,6 @@ module _ (frames n k : ℕ) where
 
     pub by-number : all ≤ 2147483648 → leb all k ≡ badNumber (scheduleOf frames n) frames k
     by-number l = rw (ne-eqb frames 0 h, ← e, le-ltb 2147483648 all l) (whole (leb all k))
-
--- ---- the form, which the packet writer looks at first
-
-pub tells-form : (h : Header) (a : Made) (n : ℕ) → a ≡ first Done (writeRows h 0 0) → n ≡ numberMade a → eqb n 20 ≡ badForm h
-tells-form h a n e q =
-    rw (q, e)
-    (by-test (λ b. eqb (numberMade (choose b Form after)) 20 ≡ b) (badForm h) (λ t. refl) (λ t. others (ltb 1436 (dataSize h)) (unlike 0 (dataSize h))))
-  where
-    after : Made
-    after = choose (ltb 1436 (dataSize h)) Big (choose (unlike 0 (dataSize h)) Data Room)
-
-    others : (big other : Bool) → eqb (numberMade (choose big Big (choose other Data Room))) 20 ≡ false
-    others true other = refl
-    others false true = refl
-    others false false = refl
 
 -- a number against one that a function ensures
 module _ {A : Type 0} (n a r : ℕ) (x y : A) (e : r ≡ a) where

@@ -1,14 +1,12 @@
 -- Packet k as the code cuts it: what the checks leave to the writing, and what is written.
 use mathlib.Core.Path.{_≡_, sym, ap, _∙_}
 use mathlib.Core.List.{List}
-use Prim.Native.Nat.{ℕ, _+_, _*_, _%_, _^_, _≤_, _<_}
+use Prim.Native.Nat.{ℕ, _+_, _*_, _^_, _≤_, _<_}
 use native.Mathlib.Nat.{mul-assoc, le-of-eq}
 use native.Mathlib.Omega.{arith}
-use lib.ListN.{length, take}
-use lib.Seq.{length-take-le}
-use borrow.Rule.Slice.PartMut.{putMid}
+use lib.ListN.{length}
 use Rattle.lists.specs.Lists.{put}
-use Rattle.lists.proofs.Lists.{lent, put-none}
+use Rattle.lists.proofs.Lists.{put-none}
 use Rattle.answers.specs.declared.Made.{Made}
 use Rattle.answers.specs.declared.Made.the-variants.{Done}
 use Rattle.answers.specs.Numbers.{numberMade}
@@ -19,8 +17,7 @@ use Rattle.samples.specs.declared.Indexed.the-variants.{Known, Unknown}
 use Rattle.samples.specs.Formats.{indexed, sizeOf, sizeKnown}
 use Rattle.wire.specs.declared.header.Header.{Header}
 use Rattle.wire.specs.Header.{dataSize}
-use Rattle.wire.specs.Write.{headerBytes, packetOf, GoodForm}
-use Rattle.wire.proofs.Pieces.{put-next}
+use Rattle.wire.specs.Write.{packetOf, GoodForm}
 use Rattle.track.specs.Records.{recordsHeld, takenOf}
 use Rattle.cutter.specs.Schedule.{scheduleOf}
 use Rattle.cutter.specs.Cut.{cutSchedule, packetHeader, takenKnown, cutPacket, cutAnswer, cutOf, cutOutput}
@@ -53,13 +50,6 @@ module _ (h : Header) (i : Indexed) (e : i ≡ indexed (h .format)) where
 
   pub format-room : (f : Format) (n : ℕ) → i ≡ Known f → 28 + dataSize h ≤ n → 28 + h .frames * (h .channels * sizeOf f) ≤ n
   format-room f n u l = omega (arith, format-size f u)
-
--- the header comes back in its place, and the samples follow it
-pub packed : (h : Header) (samples out ys o : List ℕ) (n : ℕ) → ys ≡ headerBytes h → length ys ≡ length (take 28 out) → 28 + n ≤ length out
-    → o ≡ put (putMid 0 28 out ys) 28 samples → o ≡ put out 0 (packetOf h samples)
-packed h samples out ys o n e k r p =
-    let l : length ys ≡ 28 = k ∙ length-take-le 28 out (omega arith) in
-    p ∙ ap (λ (x : List ℕ). put x 28 samples) (lent out ys 0 28 l) ∙ put-next out ys samples 28 l ∙ rw e
 
 -- ---- the whole
 

@@ -1,28 +1,26 @@
 -- Cutting answers as the paper's rules say.
 use mathlib.Core.Path.{_≡_, refl}
 use mathlib.Core.Logic.{_↔_}
-use mathlib.Core.Bool.{false, not}
+use mathlib.Core.Bool.{false}
 use mathlib.Core.List.{List, [], _∷_}
 use Prim.Native.Nat.{ℕ, _+_, _%_, _^_, _≤_, zero-le}
 use native.Mathlib.Omega.{arith}
 use lib.Dec.{ltb, leb, eqb}
 use lib.ListN.{length}
-use borrow.Author.Tests.{ltb-false, le-ltb, leb-true, leb-false, le-leb, lt-leb, eqb-true, eqb-false, ne-eqb, not-false}
+use borrow.Author.Tests.{ltb-false, le-ltb, leb-false, lt-leb, eqb-true, eqb-false, ne-eqb}
 use Rattle.lists.specs.Lists.{put}
-use Rattle.lists.specs.Tables.{choose, outside}
+use Rattle.lists.specs.Tables.{choose}
 use Rattle.lists.specs.Rules.{AllHold, FirstBroken, Judges}
-use Rattle.lists.proofs.Tables.{by-test, none-holds, none-says, inside-by, by-inside}
-use Rattle.lists.proofs.Rules.{judged, judged-less, judged-unlike, none-answers, all-hold-exactly, first-broken-exactly}
+use Rattle.lists.proofs.Tables.{by-test, none-holds, none-says}
+use Rattle.lists.proofs.Rules.{judged, judged-unlike, none-answers, all-hold-exactly, first-broken-exactly}
 use Rattle.answers.specs.declared.Made.{Made}
 use Rattle.answers.specs.declared.Made.the-variants.{Done}
 use Rattle.answers.specs.Numbers.{numberMade}
 use Rattle.answers.proofs.Numbers.{made-told}
-use Rattle.samples.specs.Formats.{maySend}
 use Rattle.wire.specs.declared.header.Header.{Header}
-use Rattle.wire.specs.Names.{goodName}
 use Rattle.wire.specs.Header.{dataSize}
-use Rattle.wire.specs.Write.{badForm, writeRows, GoodForm, writeRules}
-use Rattle.wire.proofs.Names.{good-exactly}
+use Rattle.wire.specs.Write.{badForm}
+use Rattle.wire.proofs.Writing.{form-by, by-form, write-judges}
 use Rattle.track.specs.Records.{recordsHeld}
 use Rattle.cutter.specs.Schedule.{Schedule}
 use Rattle.cutter.specs.Largest.{largestFrames}
@@ -31,42 +29,14 @@ use Rattle.cutter.specs.Cut.{cutSchedule, packetHeader, cutPacket, badCu
 -- ---- each row judges its rule
 
 module _ (h : Header) (short : length (h .name) ≤ 16) where
-  form-by : badForm h ≡ false → GoodForm h
-  form-by e =
-      let c = none-holds (ltb 20 (h .rate) ∷ not (maySend (h .format)) ∷ outside 256 (h .frames) ∷ outside 256 (h .channels) ∷ not (goodName (h .name)) ∷ []) e in
-      record {
-        rated = ltb-false _ _ (c .0);
-        typed = leb-true _ _ (not-false _ (c .1 .0));
-        frames-few = inside-by 256 _ (c .1 .1 .0);
-        channels-few = inside-by 256 _ (c .1 .1 .1 .0);
-        named = good-exactly (h .name) short .0 (not-false _ (c .1 .1 .1 .1 .0));
-      }
-
-  by-form : GoodForm h → badForm h ≡ false
-  by-form g =
-      rw (
-        le-ltb 20 (h .rate) (g .rated),
-        le-leb (h .format) 3 (g .typed),
-        by-inside 256 (h .frames) (g .frames-few),
-        by-inside 256 (h .channels) (g .channels-few),
-        good-exactly (h .name) short .1 (g .named),
-      )
-
   cut-by : badCut h ≡ false → GoodCut h
   cut-by e =
       let c = none-holds (badForm h ∷ ltb 8 (h .channels) ∷ ltb (largestFrames (h .format) (h .channels)) (h .frames) ∷ []) e in
-      record { formed = form-by (c .0); channels-few = ltb-false _ _ (c .1 .0); no-larger = ltb-false _ _ (c .1 .1 .0) }
+      record { formed = form-by h short (c .0); channels-few = ltb-false _ _ (c .1 .0); no-larger = ltb-false _ _ (c .1 .1 .0) }
 
   by-cut : GoodCut h → badCut h ≡ false
   by-cut g =
-      rw (by-form (g .formed), le-ltb 8 (h .channels) (g .channels-few), le-ltb (largestFrames (h .format) (h .channels)) (h .frames) (g .no-larger))
-
-  write-judges : (given room : ℕ) → Judges (writeRows h given room) (writeRules h given room)
-  write-judges given room =
-      judged (badForm h) by-form form-by
-      (judged-less 1436 (dataSize h)
-      (judged-unlike given (dataSize h)
-      (judged-less room (28 + given) tt)))
+      rw (by-form h short (g .formed), le-ltb 8 (h .channels) (g .channels-few), le-ltb (largestFrames (h .format) (h .channels)) (h .frames) (g .no-larger))
 
 module _ (s : Schedule) (frames k : ℕ) where
   number-by : badNumber s frames k ≡ false → GoodNumber s frames k

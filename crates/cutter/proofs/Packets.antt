@@ -3,7 +3,6 @@ use mathlib.Core.Path.{_≡_, refl, sym, _∙_}
 use mathlib.Core.List.{List, _++_}
 use Prim.Native.Nat.{ℕ, _+_, _*_, _^_, _<_}
 use native.Mathlib.Nat.{add-assoc, mul-assoc, mul-zero, le-of-eq, mod-lt}
-use native.Mathlib.Omega.{arith}
 use lib.Dec.{ltb, lit<}
 use lib.ListN.{length, take, drop, length-append}
 use Rattle.lists.specs.Lists.{byte}
@@ -23,11 +22,10 @@ use Rattle.samples.proofs.Bits.{sent-nearest, sent-slot}
 use Rattle.wire.specs.declared.header.Header.{Header}
 use Rattle.wire.specs.Header.{dataSize}
 use Rattle.wire.specs.Read.{readOf}
-use Rattle.wire.specs.Write.{leadOf, headerBytes, writeOf, outputOf}
+use Rattle.wire.specs.Write.{headerBytes, writeOf, outputOf}
 use Rattle.wire.specs.Again.{keptHeader}
-use Rattle.wire.proofs.Names.{kept-length}
 use Rattle.wire.proofs.Writing.{write-done-exactly, write-done-gives}
-use Rattle.wire.proofs.RoundTrip.{ReadsBack, written-reads-back}
+use Rattle.wire.proofs.RoundTrip.{lead-length, ReadsBack, written-reads-back}
 use Rattle.track.specs.Bytes.{sampleAt}
 use Rattle.track.specs.Records.{slotAt, slotNumber, packetSlot, takenOf}
 use Rattle.track.proofs.Spelling.{sample-after}
@@ -44,15 +42,11 @@ module _ (h : Header) (track : List ℕ) (k : ℕ) where
   pub samples-length : length (packetSamples h (cutSchedule h track) track k) ≡ dataSize (packetHeader h (cutSchedule h track) k)
   samples-length = taken-size (indexed (h .format)) track (cutSchedule h track .first k) (cutSchedule h track .count k) (h .channels)
 
-  lead-length : length (h .name) ≡ 16 → length (headerBytes (packetHeader h (cutSchedule h track) k)) ≡ 28
-  unfolding leadOf
-  lead-length sixteen = simp length-append (omega (arith, kept-length (h .name) (le-of-eq sixteen)))
-
   pub packet-length : length (h .name) ≡ 16 → length (cutPacket h track k) ≡ 28 + dataSize (packetHeader h (cutSchedule h track) k)
   unfolding cutPacket
   packet-length sixteen =
       length-append (headerBytes (packetHeader h (cutSchedule h track) k)) (packetSamples h (cutSchedule h track) track k)
-      ∙ rw (lead-length sixteen, samples-length)
+      ∙ rw (lead-length (packetHeader h (cutSchedule h track) k) sixteen, samples-length)
 
 -- ---- written and read back
 
@@ -122,7 +116,7 @@ module _ (h : Header) (sixteen : length (h .name) ≡ 16) (track : List ℕ) (by
     -- a sample is the slot's, as the type sends it, and of its type's numbers the nearest to it
     pub cut-sample : sampleAt f (cutPacket h track k) (28 + i * (h .channels * sizeOf f) + c * sizeOf f) ≡ sentOf f slot
     cut-sample =
-        rw packet-is (after-lead f lead taken (lead-length h track k sixteen) (i * (h .channels * sizeOf f)) (c * sizeOf f))
+        rw packet-is (after-lead f lead taken (lead-length (packetHeader h (cutSchedule h track) k) sixteen) (i * (h .channels * sizeOf f)) (c * sizeOf f))
         ∙ taken-sample f track from (cutSchedule h track .count k) (h .channels) i c l sent fits
 
     pub cut-nearest : Nearest (valueOf Signed24 (slotNumber track (from + i) c)) f
@@ -133,5 +127,5 @@ module _ (h : Header) (sixteen : length (h .name) ≡ 16) (track : List ℕ) (by
   pub cut-laid : packetSlot f (cutPacket h track k) 28 (h .channels) i c
       ≡ choose (ltb c (h .channels)) (bitsOf 24 (carried f (slotNumber track (from + i) c))) 0
   cut-laid =
-      rw (packet-is, ← lead-length h track k sixteen, ← sent-slot f slot fits)
+      rw (packet-is, ← lead-length (packetHeader h (cutSchedule h track) k) sixteen, ← sent-slot f slot fits)
       (taken-packet f track from (cutSchedule h track .count k) (h .channels) lead i c l fits)

@@ -5,7 +5,7 @@ ghost use lib.ListN.{length};
 ghost use Rattle.lists.specs.Lists.{put};
 ghost use Rattle.samples.specs.Formats.{indexed};
 ghost use Rattle.wire.specs.Header.{dataSize};
-ghost use Rattle.wire.specs.Write.{badForm, GoodForm, packetOf};
+ghost use Rattle.wire.specs.Write.{GoodForm, packetOf};
 ghost use Rattle.track.specs.Records.{recordsHeld};
 ghost use Rattle.cutter.specs.Schedule.{scheduleOf};
 ghost use Rattle.cutter.specs.Cut.{packetHeader, takenKnown, badCut, cutAnswer, cutOf, cutOutput};
@@ -19,17 +19,10 @@ pub struct CutAnswer {
     pub length: usize,
 }
 
-// The packet writer looks at the form before the data, so what it says of no data tells.
-fn bad_form(h: Header) -> bool
-    ensures { λ r. ⌜ r ≡ badForm h ⌝ }
-{
-    answers::number_made(wire::write::refusal(h, 0, 0)) == 20
-}
-
 fn bad_cut(h: Header) -> bool
     ensures { λ r. ⌜ r ≡ badCut h ⌝ }
 {
-    if bad_form(h) {
+    if wire::write::bad_form(h) {
         return true;
     }
     if h.channels > 8 {

@@ -4,10 +4,10 @@
 --     less        t is a comparison of two numbers
 --     more-of     the same, where the number tested is what a function ensures is the definition's
 --     unlike      t is `!=` of two numbers, and unlike-of where a function ensures the number tested
-use mathlib.Core.Path.{_≡_, refl, sym, _∙_}
+use mathlib.Core.Path.{_≡_, sym, _∙_}
 use mathlib.Core.Bool.{Bool, true, false, not}
 use Prim.Native.Nat.{ℕ, _<_, _≤_}
-use lib.Dec.{ltb, eqb}
+use lib.Dec.{ltb}
 use borrow.Author.Tests.{lt-ltb, le-ltb, eq-eqb, ne-eqb}
 use Rattle.lists.specs.Tables.{choose, unlike}
 

@@ -1,10 +1,10 @@
 -- What was accepted, by the history of packet numbers alone: there is one first packet, it is the lowest, and what was accepted is settled.
-use mathlib.Core.Path.{_≡_, refl, sym, ap, _∙_}
+use mathlib.Core.Path.{_≡_}
 use mathlib.Core.Logic.{_⊎_, inl, inr, ⊎-elim}
-use Prim.Native.Nat.{ℕ, _+_, _-_, _≤_, _<_}
+use Prim.Native.Nat.{ℕ, _-_, _≤_}
 use native.Mathlib.Omega.{arith}
 use Rattle.cutter.specs.Schedule.{Schedule}
-use Rattle.recorder.specs.Took.{Took, nothing, Fits, Joins, hears}
+use Rattle.recorder.specs.Took.{Took, nothing, hears}
 
 -- what a history leaves in order: every packet accepted comes with a first one, which is the only first and the lowest
 pub record Ordered (A : Took) : Type 0 where

@@ -1,6 +1,6 @@
 -- Demand 3, of the contracts' own definitions: the cutter's packets on one side, opening and following on the other.
 use mathlib.Core.Path.{_≡_, refl, sym, ap, _∙_}
-use mathlib.Core.Logic.{_⊎_, inl, inr, ⊎-elim}
+use mathlib.Core.Logic.{inl, inr}
 use mathlib.Core.Bool.{true, Bool-discrete}
 use mathlib.Core.List.{List, [], _∷_}
 use Prim.Native.Nat.{ℕ, _≤_, _<_}
@@ -8,9 +8,6 @@ use native.Mathlib.Decide.{ℕ-discrete}
 use native.Mathlib.Nat.{le-of-eq}
 use lib.ListN.{length}
 use Rattle.lists.specs.Lists.{byte}
-use Rattle.lists.proofs.Tables.{by-test}
-use Rattle.answers.specs.declared.Answer.{Answer}
-use Rattle.answers.specs.declared.Answer.the-variants.{Accepted}
 use Rattle.answers.specs.declared.Made.the-variants.{Done}
 use Rattle.answers.specs.Numbers.{numberOf}
 use Rattle.answers.proofs.Numbers.{accepts}
@@ -24,11 +21,11 @@ use Rattle.wire.specs.Read.{readOf}
 use Rattle.wire.proofs.Names.{same-exactly}
 use Rattle.track.specs.Records.{recordsHeld}
 use Rattle.take.specs.declared.Tally.{Tally}
-use Rattle.cutter.specs.Cut.{cutSchedule, cutPacket, cutAnswer, cutOf}
+use Rattle.cutter.specs.Cut.{cutPacket, cutAnswer, cutOf}
 use Rattle.cutter.proofs.Exactly.{cut-answer, cut-done-exactly}
 use Rattle.recorder.specs.Took.{Took}
 use Rattle.recorder.specs.Box.{Event, Box, opened, after}
-use Rattle.recorder.specs.Sender.{Heard, Audio, Comes, NoOtherAudio, heardOf, acceptedIn, Each, Recorded, sentNumber}
+use Rattle.recorder.specs.Sender.{Heard, Audio, Comes, NoOtherAudio, acceptedIn, Each, Recorded, sentNumber}
 use Rattle.recorder.proofs.Accepting.{Ordered}
 use Rattle.recorder.proofs.Standing.{begins}
 use Rattle.recorder.proofs.Steps.{Packets, Good, good, shows}

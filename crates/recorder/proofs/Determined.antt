@@ -1,22 +1,20 @@
 -- Two tracks that show the same are the same bytes.
-use mathlib.Core.Path.{_≡_, refl, sym, ap, _∙_, subst}
-use mathlib.Core.Logic.{_⊎_, inl, inr, ⊎-elim}
+use mathlib.Core.Path.{_≡_, sym, ap, _∙_, subst}
+use mathlib.Core.Logic.{_⊎_, ⊎-elim}
 use mathlib.Core.List.{List}
-use Prim.Native.Nat.{ℕ, _+_, _-_, _*_, _/_, _%_, _^_, _≤_, _<_}
+use Prim.Native.Nat.{ℕ, _+_, _-_, _*_, _/_, _%_, _≤_, _<_}
 use native.Mathlib.Decide.{decLt, ℕ-discrete}
 use native.Mathlib.Omega.{arith}
 use lib.Dec.{lit≤}
-use lib.IntN.{ℤ, pos}
-use lib.ListN.{length}
+use lib.IntN.{pos}
 use lib.Seq.{ext-getD}
 use Rattle.lists.specs.Lists.{byte}
-use Rattle.samples.specs.Wire.{signedOf, bitsOf}
+use Rattle.samples.specs.Wire.{bitsOf}
 use Rattle.samples.proofs.Bits.{signed-bits}
 use Rattle.wire.specs.declared.header.Header.{Header}
 use Rattle.track.specs.Records.{recordsHeld, slotAt, slotNumber}
 use Rattle.track.proofs.Laws.{slot-fits}
-use Rattle.cutter.specs.Schedule.{Schedule, scheduleOf}
-use Rattle.cutter.specs.Cut.{cutSchedule}
+use Rattle.cutter.specs.Schedule.{scheduleOf}
 use Rattle.cutter.proofs.Scheduling.{held-by, held-once, within-track}
 use Rattle.recorder.specs.Took.{Took}
 use Rattle.recorder.specs.Shows.{Holds, Shows}

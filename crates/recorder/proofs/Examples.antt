@@ -1,7 +1,6 @@
 -- The awkward histories of demand 3, computed: by the definitions of the contracts, not by the theorem.
 use mathlib.Core.Path.{_≡_, refl}
-use mathlib.Core.List.{List, [], _∷_}
-use Prim.Native.Nat.{ℕ}
+use mathlib.Core.List.{[], _∷_}
 use Rattle.lists.specs.Lists.{put, upTo}
 use Rattle.bytes.specs.Bytes.{indexOf, indexAfter}
 use Rattle.samples.specs.Convert.{narrowed, rescaled, converted}

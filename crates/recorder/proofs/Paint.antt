@@ -1,10 +1,8 @@
 -- The painting of a track, over any frame counts and offsets, with no counter, place rule or box in it: packets that lie apart are
 -- painted one by one, and the track shows all of them and silence elsewhere.
-use mathlib.Core.Path.{_≡_, refl, sym, ap, _∙_}
+use mathlib.Core.Path.{_≡_, refl, _∙_}
 use mathlib.Core.Logic.{_⊎_, inl, inr, ⊎-elim}
 use Prim.Native.Nat.{ℕ, _+_, _-_, _≤_, _<_}
-use native.Mathlib.Decide.{decLt, decLe}
-use native.Mathlib.Omega.{arith}
 
 -- record i is one of the n from record at on
 abbrev pub Within : ℕ → ℕ → ℕ → Type 0

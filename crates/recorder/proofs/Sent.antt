@@ -1,8 +1,8 @@
 -- The cutter's packets are such packets: what the box reads and lays of them, by the cutter's laws.
-use mathlib.Core.Path.{_≡_, refl, sym, ap, _∙_}
+use mathlib.Core.Path.{_≡_, sym, ap, _∙_}
 use mathlib.Core.Bool.{true}
 use mathlib.Core.List.{List}
-use Prim.Native.Nat.{ℕ, _+_, _-_, _*_, _%_, _^_, _≤_, _<_}
+use Prim.Native.Nat.{ℕ, _+_, _-_, _*_, _^_, _≤_, _<_}
 use native.Mathlib.Nat.{le-of-eq}
 use native.Mathlib.Decide.{ℕ-discrete}
 use native.Mathlib.Omega.{arith}
@@ -23,8 +23,6 @@ use Rattle.samples.specs.Wire.{signedOf, bitsOf}
 use Rattle.samples.proofs.Nearest.{converted-has}
 use Rattle.samples.proofs.Bits.{bits-sample, bits-below, sample-has}
 use Rattle.wire.specs.declared.header.Header.{Header}
-use Rattle.wire.specs.Read.{readOf, Readable}
-use Rattle.wire.specs.Header.{headerOf}
 use Rattle.wire.proofs.Reading.{read-accepted-exactly, read-accepted-fields}
 use Rattle.track.specs.Records.{recordsHeld, slotNumber, packetSlot}
 use Rattle.track.proofs.Laws.{slot-fits, silence}

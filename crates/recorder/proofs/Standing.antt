@@ -1,14 +1,13 @@
 -- The take, as the packets accepted determine it, and what the box answers to a packet. The only file that knows the place rule.
 use mathlib.Core.Path.{_≡_, refl, sym, ap, _∙_, subst}
-use mathlib.Core.Logic.{_⊎_, inl, inr, ⊎-elim, _↔_}
+use mathlib.Core.Logic.{_⊎_, inl, inr, ⊎-elim}
 use mathlib.Core.Bool.{true, false}
 use mathlib.Core.List.{List}
-use Prim.Native.Nat.{ℕ, _+_, _-_, _*_, _/_, _%_, _^_, _≤_, _<_, min}
+use Prim.Native.Nat.{ℕ, _+_, _-_, _*_, _%_, _^_, _≤_, _<_}
 use native.Mathlib.Nat.{le-div-iff-mul-le, mul-le-mul-right, add-mul, sub-add-cancel, sub-self, zero-mul, le-of-eq}
 use native.Mathlib.Decide.{decLt}
 use native.Mathlib.Omega.{arith}
 use lib.ListN.{length}
-use Rattle.lists.specs.Tables.{choose}
 use Rattle.lists.proofs.Tables.{true-false}
 use Rattle.wire.specs.declared.header.Header.{Header}
 use Rattle.wire.specs.Names.{nameOf, keptName, GoodName}
@@ -16,11 +15,10 @@ use Rattle.wire.specs.Header.{fieldOf, headerOf}
 use Rattle.wire.specs.Read.{Readable}
 use Rattle.wire.proofs.Names.{kept-name, kept-good-name}
 use Rattle.take.specs.declared.Take.{Take}
-use Rattle.take.specs.Counter.{away}
-use Rattle.take.specs.Take.{GoodShape, GoodState, unbegun}
-use Rattle.take.specs.Follow.{distance, placeOf, followedBy, OurStream, SameShape, Newer, Followable}
+use Rattle.take.specs.Take.{GoodShape, unbegun}
+use Rattle.take.specs.Follow.{distance, placeOf, followedBy, SameShape, Newer, Followable}
 use Rattle.cutter.specs.Schedule.{Schedule, scheduleOf}
-use Rattle.recorder.specs.Took.{Took, Fits, Joins, hears}
+use Rattle.recorder.specs.Took.{Took, Joins, hears}
 use Rattle.recorder.proofs.Accepting.{Ordered}
 
 -- ---- the schedule: packet k's frames start at k * N

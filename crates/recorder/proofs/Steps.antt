@@ -1,19 +1,15 @@
 -- One event more, and every history: the track shows what was accepted and nothing else, over packets of which only what is read and laid is known.
 use mathlib.Core.Path.{_≡_, refl, sym, ap, _∙_, subst}
 use mathlib.Core.Logic.{_⊎_, inl, inr, ⊎-elim, _↔_}
-use mathlib.Core.Bool.{true, false}
 use mathlib.Core.List.{List, [], _∷_}
 use Prim.Native.Nat.{ℕ, _+_, _-_, _*_, _/_, _%_, _^_, _≤_, _<_}
 use native.Mathlib.Nat.{mul-le-mul-right, suc-mul}
 use native.Mathlib.Decide.{ℕ-discrete, decLt}
 use native.Mathlib.Numerals.{add-one}
 use native.Mathlib.Omega.{arith}
-use lib.Dec.{eqb}
 use lib.IntN.{ℤ, pos}
 use lib.ListN.{length}
-use borrow.Author.Tests.{eqb-true, eqb-false}
 use Rattle.lists.specs.Lists.{byte}
-use Rattle.lists.proofs.Tables.{by-test}
 use Rattle.answers.specs.declared.Answer.{Answer}
 use Rattle.answers.specs.declared.Answer.the-variants.{Accepted}
 use Rattle.answers.specs.Numbers.{numberOf}
@@ -28,21 +24,21 @@ use Rattle.wire.specs.Header.{fieldOf, headerOf}
 use Rattle.wire.specs.Read.{readOf, Readable}
 use Rattle.wire.proofs.Names.{kept-name, kept-length}
 use Rattle.wire.proofs.Reading.{read-accepted-exactly}
-use Rattle.track.specs.Records.{recordsHeld, clearedOf, slotAt, slotNumber, laidOf, packetSlot}
+use Rattle.track.specs.Records.{recordsHeld, slotNumber, laidOf, packetSlot}
 use Rattle.track.proofs.Laws.{laid-length, laid-slot, slot-before, slot-after, laid-after, cleared-length, cleared-slot, cleared-rest, silence}
 use Rattle.take.specs.declared.Take.{Take}
 use Rattle.take.specs.declared.Tally.{Tally}
-use Rattle.take.specs.Take.{unbegun, openOf, openedTrack}
-use Rattle.take.specs.Follow.{placeOf, answerOf, followedBy, followOf, laidKnown, followedTrack, Followable}
+use Rattle.take.specs.Take.{unbegun}
+use Rattle.take.specs.Follow.{placeOf, answerOf, laidKnown, followedTrack, Followable}
 use Rattle.take.proofs.Exactly.{follow-accepted-exactly, follow-refused, follow-accepted, refused-track, follow-track, open-accepted}
 use Rattle.cutter.specs.Schedule.{Schedule, scheduleOf}
 use Rattle.recorder.specs.Took.{Took, nothing, Joins, hears, tookAfter}
-use Rattle.recorder.specs.Shows.{Holds, ShowsFrom, Shows}
+use Rattle.recorder.specs.Shows.{Shows}
 use Rattle.recorder.specs.Box.{Event, Box, opened, follows, after}
 use Rattle.recorder.specs.Sender.{heardOf, Each}
 use Rattle.recorder.proofs.Accepting.{Ordered, nothing-ordered, hears-ordered}
 use Rattle.recorder.proofs.Paint.{Within, Paints, Laid, paint, repaint, unpainted}
-use Rattle.recorder.proofs.Standing.{starts, counts, place-add, readHeader, Stands, Follows, begins, follows-same, followed, joined, next, placed}
+use Rattle.recorder.proofs.Standing.{place-add, readHeader, Follows, begins, follows-same, followed, joined, next, placed}
 
 -- a sender's packets, as the box reads them and lays them down
 pub record Packets (T N : ℕ) (h : Header) (f : Format) (bytes : ℕ → List ℕ) (source : ℕ → ℕ → ℤ) : Type 0 where

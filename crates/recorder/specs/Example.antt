@@ -5,7 +5,6 @@ use lib.ListN.{replicate}
 use Rattle.lists.specs.Lists.{byte, upTo}
 use Rattle.wire.specs.declared.header.Header.{Header}
 use Rattle.take.specs.Tally.{cleared}
-use Rattle.track.specs.Records.{recordsHeld}
 use Rattle.cutter.specs.Cut.{cutPacket}
 use Rattle.recorder.specs.Box.{Event, opened, after}
 

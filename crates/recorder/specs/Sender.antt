@@ -18,7 +18,6 @@ use Rattle.wire.specs.Names.{nameOf}
 use Rattle.wire.specs.Header.{fieldOf}
 use Rattle.wire.specs.Read.{readOf}
 use Rattle.track.specs.Records.{recordsHeld, slotNumber}
-use Rattle.cutter.specs.Schedule.{Schedule}
 use Rattle.cutter.specs.Cut.{cutSchedule, cutPacket}
 use Rattle.recorder.specs.Took.{Took, tookAfter}
 use Rattle.recorder.specs.Shows.{Shows}

@@ -1,7 +1,6 @@
 -- What a track shows of the packets accepted (demand 3): the sender's frames where the packet holding them was accepted, silence elsewhere.
 use Prim.Native.Nat.{ℕ, _+_, _≤_, _<_}
 use mathlib.Core.Path.{_≡_}
-use mathlib.Core.Logic.{_⊎_}
 use Rattle.cutter.specs.Schedule.{Schedule}
 use Rattle.recorder.specs.Took.{Took}
 

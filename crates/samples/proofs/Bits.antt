@@ -1,12 +1,12 @@
 -- A sample's bits spell one of its type's numbers, each number has bits of its own, and what a slot holds and a sample sent stands
 -- for is the definition's. Over the width.
-use mathlib.Core.Path.{_≡_, refl, sym, ap, _∙_, subst}
+use mathlib.Core.Path.{_≡_, refl, ap, _∙_, subst}
 use mathlib.Core.Bool.{true, false≢true}
-use Prim.Native.Nat.{ℕ, zero, suc, _+_, _-_, _%_, _^_, _≤_, _<_}
+use Prim.Native.Nat.{ℕ, suc, _+_, _-_, _^_, _≤_, _<_}
 use native.Mathlib.Nat.{mod-lt, mod-eq-of-lt, add-mod-right}
 use native.Mathlib.Omega.{arith}
 use native.Mathlib.Decide.{decLt}
-use lib.Dec.{lit≤, lit<}
+use lib.Dec.{lit≤}
 use lib.Pow.{pow-pos}
 use lib.IntN.{ℤ, pos, negsuc, natAbs, subℕ}
 use lib.Signed.{mag}

@@ -5,14 +5,12 @@ use mathlib.Core.Logic.{_↔_}
 use Prim.Native.Nat.{ℕ, _^_, _≤_, _<_}
 use native.Mathlib.Omega.{arith}
 use native.Mathlib.Decide.{ℕ-discrete}
-use lib.Dec.{leb, T}
 use lib.IntN.{ℤ, pos}
-use lib.Signed.{mag, leZ, _≤ℤ_}
+use lib.Signed.{mag}
 use mir.Syntax.{w64}
 use mir.Val.{SFits}
 use mir.Facts.{toZ-ofZ}
-use borrow.Author.Tests.{leb-true, leb-false, le-leb, not-true, not-false, eq-eqb, ne-eqb}
-use Rattle.lists.specs.Tables.{choose, first}
+use borrow.Author.Tests.{leb-true, le-leb, not-true, not-false, eq-eqb, ne-eqb}
 use Rattle.lists.specs.Rules.{AllHold, FirstBroken, Judges}
 use Rattle.lists.proofs.Rules.{all-hold-exactly, first-broken-exactly}
 use Rattle.answers.specs.declared.Made.{Made}
@@ -23,7 +21,7 @@ use Rattle.samples.specs.declared.Format.the-variants.{Unsigned8, Signed
 use Rattle.samples.specs.declared.Indexed.{Indexed}
 use Rattle.samples.specs.declared.Indexed.the-variants.{Known, Unknown}
 use Rattle.samples.specs.declared.Converted.{Converted}
-use Rattle.samples.specs.Formats.{indexed, mayConvert, lowestOf, highestOf, has}
+use Rattle.samples.specs.Formats.{indexed, mayConvert, has}
 use Rattle.samples.specs.Convert.{hasKnown, convertRows, convertKnown, converted, convertOf}
 use Rattle.samples.specs.Nearest.{NearestKnown, Has, convertRules}
 use Rattle.samples.proofs.Machine.{Long, back}

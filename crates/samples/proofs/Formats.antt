@@ -1,20 +1,19 @@
 -- A number of a type is the number at its place, and the places are those below 2 to the width. By the types' constants.
-use mathlib.Core.Path.{_≡_, refl, sym, ap, _∙_, subst}
+use mathlib.Core.Path.{_≡_, refl, ap, _∙_}
 use mathlib.Core.Bool.{Bool, true, false, _&&_, false≢true}
 use Prim.Native.Nat.{ℕ, zero, suc, _+_, _-_, _%_, _^_, _≤_, _<_}
 use native.Mathlib.Omega.{arith}
 use native.Mathlib.Decide.{decLe}
-use lib.Dec.{T, leb→le, le→leb, lit≤, lit<}
-use lib.Pow.{pow-pos, pow-mono}
-use lib.IntN.{ℤ, pos, negsuc, negℤ, subℕ, natAbs, _+ℤ_, _-ℤ_}
-use lib.Signed.{leZ, mag, _≤ℤ_}
+use lib.Dec.{T, leb→le, le→leb, lit≤}
+use lib.Pow.{pow-pos}
+use lib.IntN.{ℤ, pos, negsuc, negℤ, subℕ, _+ℤ_, _-ℤ_}
+use lib.Signed.{leZ, _≤ℤ_}
 use Rattle.samples.specs.declared.Format.{Format}
 use Rattle.samples.specs.declared.Format.the-variants.{Unsigned8, Signed16, Signed24, Signed32}
-use Rattle.samples.specs.declared.Indexed.{Indexed}
-use Rattle.samples.specs.declared.Indexed.the-variants.{Known, Unknown}
+use Rattle.samples.specs.declared.Indexed.the-variants.{Known}
 use Rattle.samples.specs.Formats.{indexed, indexOf, widthOf, lowestOf, highestOf, middleOf, has}
 use Rattle.samples.specs.Convert.{biasOf, rank, placeOf, numberAt}
-use Rattle.samples.proofs.Places.{sub-le, sub-lt, by-sign, rank-sub, plus, sub-sub}
+use Rattle.samples.proofs.Places.{sub-le, sub-lt, plus, sub-sub}
 
 -- the type of a type's index is the type
 pub index-back : (f : Format) → indexed (indexOf f) ≡ Known f

@@ -1,15 +1,15 @@
 -- A number rescaled as the hot forms do it: the code's calls, on plain values.
-use mathlib.Core.Path.{_≡_, refl, sym, ap, _∙_}
-use Prim.Native.Nat.{ℕ, _+_, _-_, _^_, _≤_, _<_}
+use mathlib.Core.Path.{_≡_, _∙_}
+use Prim.Native.Nat.{ℕ, _-_, _^_, _≤_, _<_}
 use native.Mathlib.Omega.{arith}
 use lib.Dec.{lit≤}
-use lib.IntN.{ℤ, pos, subℕ}
+use lib.IntN.{ℤ, subℕ}
 use lib.Signed.{mag}
 use mir.Facts.{toZ-ofZ}
 use Rattle.samples.specs.Convert.{rank, rescaled}
-use Rattle.samples.specs.Wire.{signedOf, bitsOf}
+use Rattle.samples.specs.Wire.{bitsOf}
 use Rattle.samples.proofs.Machine.{Int}
-use Rattle.samples.proofs.Bits.{signed-mag, bits-lt, rescaled-mag}
+use Rattle.samples.proofs.Bits.{bits-lt, rescaled-mag}
 
 -- the widths of a byte and of a slot are widths
 abbrev pub bits8 : (2 ≤ 8) × (8 ≤ 32)

@@ -1,6 +1,6 @@
 -- A converted number is the nearest that its type has, there is one such number only, widening is exact, and a number that is
 -- widened and narrowed again is itself. Over the types' widths.
-use mathlib.Core.Path.{_≡_, refl, sym, ap, ap₂, _∙_, subst}
+use mathlib.Core.Path.{_≡_, sym, ap, ap₂, _∙_, subst}
 use mathlib.Core.Bool.{true}
 use Prim.Native.Nat.{ℕ, _+_, _*_, _-_, _%_, _^_, _≤_, _<_}
 use native.Mathlib.Omega.{arith}
@@ -10,13 +10,13 @@ use lib.Pow.{pow-pos, pow-add}
 use lib.IntN.{ℤ, pos, natAbs, subℕ, _-ℤ_, _*ℤ_}
 use borrow.Author.Tests.{le-leb, lt-leb}
 use Rattle.samples.specs.declared.Format.{Format}
-use Rattle.samples.specs.declared.Format.the-variants.{Signed24, Signed32}
+use Rattle.samples.specs.declared.Format.the-variants.{Signed24}
 use Rattle.samples.specs.Formats.{widthOf, has}
 use Rattle.samples.specs.Convert.{biasOf, placeOf, numberAt, narrowed, rescaled, converted, carried}
 use Rattle.samples.specs.Nearest.{valueOf, apart, Nearest, Exact}
 use Rattle.samples.proofs.Places.{sub-le, sub-lt, gap, abs-sub, rank-sub, sub-sub}
 use Rattle.samples.proofs.Signed.{parity, times}
-use Rattle.samples.proofs.Formats.{width-le, width-ge, bias-even, place-lt, place-back, number-has, centred}
+use Rattle.samples.proofs.Formats.{width-ge, bias-even, place-lt, place-back, number-has, centred}
 use Rattle.samples.proofs.Rescaled.{narrowed-lt, rescaled-lt}
 use Rattle.samples.proofs.Rounds.{NearestPlace, one-only, narrowed-rounds, narrowed-nearest, exact-nearest}
 

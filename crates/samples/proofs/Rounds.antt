@@ -1,6 +1,6 @@
 -- Rounding among places: over the power P and the top place.
-use mathlib.Core.Path.{_≡_, refl, sym, ap, _∙_, subst}
-use Prim.Native.Nat.{ℕ, suc, _+_, _*_, _-_, _/_, _%_, _^_, min, _≤_, _<_}
+use mathlib.Core.Path.{_≡_, sym, subst}
+use Prim.Native.Nat.{ℕ, _+_, _*_, _-_, _/_, _%_, _^_, min, _≤_, _<_}
 use native.Mathlib.Omega.{arith}
 use native.Mathlib.Decide.{decLe, decLt}
 use native.Mathlib.Nat.{mul-le-mul-right, suc-mul, add-mul, mul-sub, mul-comm, mul-assoc, eq-of-mul-eq-mul-right, min-eq-left, div-add-mod', mod-lt}

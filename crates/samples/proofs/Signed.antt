@@ -1,13 +1,12 @@
 -- Shifts, parity and products of a difference of naturals: the machine's signed operations, on places.
-use mathlib.Core.Path.{_≡_, refl, sym, ap, _∙_}
-use mathlib.Core.Bool.{Bool, true, false}
+use mathlib.Core.Path.{_≡_, sym, ap, _∙_}
 use Prim.Native.Nat.{ℕ, zero, suc, _+_, _-_, _*_, _/_, _%_, _≤_, _<_}
 use native.Mathlib.Omega.{arith}
 use native.Mathlib.Decide.{decLe}
-use native.Mathlib.Nat.{mul-le-mul-right, suc-mul, mul-sub, mul-comm, not-suc-le-zero, div-add-mod', mod-lt, div-le-self}
+use native.Mathlib.Nat.{mul-le-mul-right, suc-mul, mul-sub, mul-comm, not-suc-le-zero, div-add-mod', mod-lt}
 use lib.Arith.{digits-div}
 use lib.Dec.{ltb}
-use lib.IntN.{ℤ, pos, negsuc, negℤ, subℕ, natAbs, _+ℤ_, _-ℤ_, _*ℤ_}
+use lib.IntN.{ℤ, pos, negsuc, negℤ, subℕ, natAbs, _*ℤ_}
 use lib.Signed.{shrZ, ltZ}
 use borrow.Author.Tests.{lt-ltb, le-ltb}
 use Rattle.lists.proofs.Tables.{less-alike}

@@ -1,6 +1,6 @@
 -- A number of one type as a number of another (document 01, "Sample numbers"): by its place among the type's numbers, 0 for the lowest.
 -- That it is the nearest is specs/Nearest.
-use mathlib.Core.Bool.{Bool, true, false, not}
+use mathlib.Core.Bool.{Bool, false, not}
 use mathlib.Core.List.{List, [], _∷_}
 use Prim.Native.Nat.{ℕ, suc, _+_, _*_, _-_, _/_, _%_, _^_, min}
 use lib.Dec.{ltb, leb, eqb}

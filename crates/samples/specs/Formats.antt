@@ -1,7 +1,7 @@
 -- The data types of a sample (document 01, "The 28 bytes" and "Sample numbers").
-use mathlib.Core.Bool.{Bool, true, false, _&&_}
-use Prim.Native.Nat.{ℕ, suc, _+_, _-_}
-use lib.IntN.{ℤ, pos, negsuc, negℤ, subℕ}
+use mathlib.Core.Bool.{Bool, _&&_}
+use Prim.Native.Nat.{ℕ}
+use lib.IntN.{ℤ, pos, negℤ}
 use lib.Signed.{leZ}
 use lib.Dec.{eqb, leb}
 use Rattle.lists.specs.Tables.{choose}

@@ -5,7 +5,6 @@ use lib.IntN.{ℤ, pos, natAbs, subℕ}
 use Rattle.lists.specs.Tables.{choose}
 use Rattle.samples.specs.declared.Format.{Format}
 use Rattle.samples.specs.declared.Format.the-variants.{Unsigned8, Signed16, Signed24, Signed32}
-use Rattle.samples.specs.Formats.{widthOf}
 use Rattle.samples.specs.Convert.{rank, converted}
 
 -- w bits as a signed number: negative where the top bit is set (document 01, "Sample numbers")

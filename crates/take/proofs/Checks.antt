@@ -1,5 +1,5 @@
 -- What the code of following puts together, on plain values: a premise is what a callee ensures or a test says.
-use mathlib.Core.Path.{_≡_, refl, sym, ap, _∙_}
+use mathlib.Core.Path.{_≡_, refl, sym, _∙_}
 use mathlib.Core.Bool.{Bool, true, false, not, _&&_}
 use Prim.Native.Nat.{ℕ, _+_, _-_, _*_, _^_, _≤_, _<_}
 use native.Mathlib.Omega.{arith}
@@ -10,7 +10,7 @@ use Rattle.lists.proofs.Tables.{by-test, true-false, less-alike}
 use Rattle.wire.specs.declared.header.Header.{Header}
 use Rattle.take.specs.declared.Take.{Take}
 use Rattle.take.specs.Counter.{away, newer}
-use Rattle.take.specs.Follow.{distance, placeOf, skippedOf, late, followedBy}
+use Rattle.take.specs.Follow.{placeOf, skippedOf, late, followedBy}
 
 -- what is tested once begun, and nothing before
 pub once : (b x r : Bool) → not b ≡ false → r ≡ x → r ≡ b && x

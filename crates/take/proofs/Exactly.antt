@@ -1,16 +1,16 @@
 -- Following and opening answer as the paper's rules say, and what comes with the answer.
-use mathlib.Core.Path.{_≡_, refl, sym, ap, _∙_}
+use mathlib.Core.Path.{_≡_, refl, sym, ap}
 use mathlib.Core.Logic.{_↔_}
 use mathlib.Core.Bool.{Bool, true, false, not, _&&_}
 use mathlib.Core.List.{List, [], _∷_, _++_}
 use Prim.Native.Nat.{ℕ, _+_, _-_, _^_, _≤_, _<_}
 use native.Mathlib.Omega.{arith}
-use lib.Dec.{ltb, eqb}
-use lib.ListN.{length, replicate}
-use borrow.Author.Tests.{ltb-true, ltb-false, lt-ltb, le-ltb, leb-true, le-leb, eq-eqb, ne-eqb, not-true, not-false}
+use lib.Dec.{ltb}
+use lib.ListN.{length}
+use borrow.Author.Tests.{ltb-true, ltb-false, lt-ltb, le-ltb, leb-true, le-leb, eq-eqb, not-false}
 use Rattle.lists.specs.Tables.{choose, row, any, unlike, outside}
 use Rattle.lists.specs.Rules.{rule, AllHold, FirstBroken, Judges}
-use Rattle.lists.proofs.Tables.{by-test, true-false, like-by, by-like, none-holds, inside-by, by-inside, none-says}
+use Rattle.lists.proofs.Tables.{by-test, true-false, like-by, none-holds, inside-by, by-inside, none-says}
 use Rattle.lists.proofs.Rules.{judged, judged-less, none-answers, all-hold-exactly, first-broken-exactly}
 use Rattle.answers.specs.declared.Answer.{Answer}
 use Rattle.answers.specs.declared.Answer.the-variants.{Accepted, Name, OtherStream, State}
@@ -18,7 +18,7 @@ use Rattle.answers.specs.Numbers.{numberOf}
 use Rattle.answers.proofs.Numbers.{refusal-number}
 use Rattle.samples.specs.Formats.{indexed, mayRead}
 use Rattle.wire.specs.declared.header.Header.{Header}
-use Rattle.wire.specs.Names.{goodName, nameOf, printable, sameName, keptName, GoodName}
+use Rattle.wire.specs.Names.{goodName, sameName, GoodName}
 use Rattle.wire.specs.Header.{fieldOf, headerOf}
 use Rattle.wire.specs.Read.{audioRows, audioRules}
 use Rattle.wire.proofs.Names.{good-exactly, bad-exactly, same-exactly, zeros-bad}

@@ -1,16 +1,15 @@
 -- What follow, lay and open put together, on plain values: a premise is what a callee ensures or a test says.
-use mathlib.Core.Path.{_≡_, refl, sym, ap, _∙_}
+use mathlib.Core.Path.{_≡_, sym, ap, _∙_}
 use mathlib.Core.Bool.{Bool, true, false, not}
-use mathlib.Core.List.{List, [], _∷_, _++_}
-use Prim.Native.Nat.{ℕ, _+_, _*_, _/_, _^_, _≤_, _<_}
+use mathlib.Core.List.{List}
+use Prim.Native.Nat.{ℕ, _+_, _*_, _^_, _≤_, _<_}
 use native.Mathlib.Nat.{mul-assoc}
 use native.Mathlib.Omega.{arith}
-use lib.Dec.{ltb, eqb}
+use lib.Dec.{ltb}
 use lib.ListN.{length}
 use borrow.Author.Tests.{ltb-false, not-true, not-false}
-use Rattle.lists.specs.Tables.{choose, first, unlike, NoneRefuses}
+use Rattle.lists.specs.Tables.{unlike, NoneRefuses}
 use Rattle.lists.proofs.Tables.{like-by, none-says, passes-exactly}
-use Rattle.answers.specs.declared.Answer.{Answer}
 use Rattle.answers.specs.declared.Answer.the-variants.{Accepted, Name}
 use Rattle.answers.specs.Numbers.{numberOf}
 use Rattle.answers.proofs.Numbers.{accepts, refuses}
@@ -24,10 +23,8 @@ use Rattle.wire.specs.Header.{headerOf, dataSize}
 use Rattle.track.specs.Records.{recordsHeld, clearedOf, laidOf, packetSlot}
 use Rattle.take.specs.declared.Take.{Take}
 use Rattle.take.specs.declared.Tally.{Tally}
-use Rattle.take.specs.declared.Opened.{Opened}
-use Rattle.take.specs.declared.Followed.{Followed}
 use Rattle.take.specs.declared.follow.Judged.{Judged}
-use Rattle.take.specs.Take.{noTake, unbegun, openOf, openedTrack}
+use Rattle.take.specs.Take.{noTake, openOf, openedTrack}
 use Rattle.take.specs.Tally.{raisedOf}
 use Rattle.take.specs.Follow.{placeOf, skippedOf, late, followRows, answerOf, judgedOf, followedBy, followOf, laidKnown, followedTrack}
 use Rattle.take.proofs.Exactly.{refused-track, follow-track, follow-refused, follow-accepted}

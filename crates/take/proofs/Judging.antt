@@ -1,18 +1,16 @@
 -- The tables of following, part by part as the code goes through them.
 use mathlib.Core.Path.{_≡_, refl, sym, ap, _∙_}
-use mathlib.Core.Bool.{Bool, true, false, not, _&&_}
+use mathlib.Core.Bool.{Bool, true, false, not}
 use mathlib.Core.List.{List, [], _∷_, _++_}
 use Prim.Native.Nat.{ℕ}
-use lib.Dec.{eqb}
 use borrow.Author.Tests.{not-true, not-false, eq-eqb, ne-eqb}
-use Rattle.lists.specs.Tables.{Row, row, choose, first, any, unlike}
+use Rattle.lists.specs.Tables.{Row, row, choose, first}
 use Rattle.lists.proofs.Tables.{none-says, passes-exactly, part-yes, part-no}
 use Rattle.lists.proofs.Branches.{flag-no}
 use Rattle.answers.specs.declared.Answer.{Answer}
 use Rattle.answers.specs.declared.Answer.the-variants.{Accepted, OtherStream, State}
 use Rattle.answers.specs.Numbers.{numberOf}
 use Rattle.answers.proofs.Numbers.{refusal-number, accepts, refuses}
-use Rattle.wire.specs.declared.header.Header.{Header}
 use Rattle.wire.specs.declared.read.FrontAnswer.{FrontAnswer}
 use Rattle.wire.specs.declared.read.ReadAnswer.{ReadAnswer}
 use Rattle.wire.specs.Names.{goodName, keptName, sameName}

@@ -1,9 +1,8 @@
 -- Acceptance changes the packet's records and no other byte, and each slot is the packet's sample by the sample rules.
-use mathlib.Core.Path.{_≡_, refl, sym, ap, _∙_}
+use mathlib.Core.Path.{_≡_, ap, _∙_}
 use mathlib.Core.List.{List}
-use Prim.Native.Nat.{ℕ, _+_, _-_, _*_, _/_, _^_, _≤_, _<_}
+use Prim.Native.Nat.{ℕ, _+_, _-_, _*_, _^_, _≤_, _<_}
 use native.Mathlib.Omega.{arith}
-use lib.IntN.{ℤ, pos}
 use lib.ListN.{length}
 use borrow.Author.Tests.{ltb-false}
 use Rattle.lists.specs.Lists.{byte}
@@ -12,17 +11,16 @@ use Rattle.samples.specs.declared.Format.{Format}
 use Rattle.samples.specs.declared.Format.the-variants.{Signed24}
 use Rattle.samples.specs.declared.Indexed.the-variants.{Known}
 use Rattle.samples.specs.Formats.{indexed, sizeOf, widthOf}
-use Rattle.samples.specs.Nearest.{Nearest, Exact, valueOf}
-use Rattle.samples.specs.Wire.{signedOf, slotOf, sampleOf}
+use Rattle.samples.specs.Wire.{signedOf, slotOf}
 use Rattle.samples.proofs.Bits.{slot-nearest, slot-number, sample-has}
 use Rattle.samples.proofs.Nearest.{widened-exact}
 use Rattle.wire.specs.declared.header.Header.{Header}
 use Rattle.wire.specs.Header.{headerOf}
 use Rattle.track.specs.Bytes.{sampleAt}
-use Rattle.track.specs.Records.{recordsHeld, slotAt, slotNumber, laidOf, packetSlot}
+use Rattle.track.specs.Records.{recordsHeld, slotAt, laidOf, packetSlot}
 use Rattle.track.proofs.Laws.{laid-length, laid-slot, laid-before, laid-after, packet-below, packet-heard, packet-silent, sample-below, silence}
 use Rattle.take.specs.declared.Take.{Take}
-use Rattle.take.specs.Follow.{placeOf, answerOf, laidKnown, followedTrack}
+use Rattle.take.specs.Follow.{placeOf, answerOf, followedTrack}
 use Rattle.take.specs.Laid.{sampleNumber, LaidDown}
 use Rattle.take.proofs.Exactly.{follow-track}
 use Rattle.take.proofs.Following.{after-audio}

@@ -1,9 +1,9 @@
 -- Distances of counters that wrap, over the counter's width.
-use mathlib.Core.Path.{_≡_, refl, sym, ap, _∙_}
+use mathlib.Core.Path.{_≡_, refl, sym, _∙_}
 use mathlib.Core.Logic.{_↔_}
-use mathlib.Core.Bool.{true, false, _&&_}
+use mathlib.Core.Bool.{true, _&&_}
 use Prim.Native.Nat.{ℕ, _+_, _-_, _*_, _/_, _%_, _^_, _≤_, _<_}
-use native.Mathlib.Nat.{mod-add-mod, add-mod-right, mod-eq-of-lt, mod-lt, div-add-mod', mul-comm}
+use native.Mathlib.Nat.{mod-add-mod, add-mod-right, mod-eq-of-lt, mod-lt, div-add-mod'}
 use native.Mathlib.Omega.{arith}
 use lib.Arith.{digits-mod}
 use lib.Dec.{ltb}

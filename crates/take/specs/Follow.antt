@@ -1,9 +1,8 @@
 -- Following a take (document 01, "Following a take" and "Numbers the bench sees": 16 first, then 1 to 15).
-use Prim.Native.Nat.{ℕ, _+_, _-_, _*_, _^_, _≤_, _<_}
+use Prim.Native.Nat.{ℕ, _+_, _-_, _*_, _^_, _≤_}
 use mathlib.Core.Path.{_≡_}
 use mathlib.Core.List.{List, [], _∷_, _++_}
-use mathlib.Core.Bool.{Bool, true, false, not, _&&_, _||_}
-use lib.ListN.{length}
+use mathlib.Core.Bool.{Bool, true, not, _&&_}
 use lib.Dec.{ltb, eqb}
 use Rattle.lists.specs.Tables.{Row, row, choose, first, any, unlike}
 use Rattle.lists.specs.Rules.{Rules, done, rule}

@@ -1,5 +1,5 @@
 -- The tally over a history of following calls (document 01, "Following a take").
-use Prim.Native.Nat.{ℕ, zero, suc, _+_}
+use Prim.Native.Nat.{ℕ, suc, _+_}
 use mathlib.Core.List.{List, [], _∷_}
 use lib.Dec.{eqb}
 use Rattle.lists.specs.Tables.{choose}

@@ -1,12 +1,11 @@
 -- The take: what it keeps, its state, its opening (document 01, "Following a take").
-use Prim.Native.Nat.{ℕ, _+_, _≤_}
+use Prim.Native.Nat.{ℕ, _≤_}
 use mathlib.Core.Path.{_≡_}
 use mathlib.Core.List.{List, [], _∷_}
 use mathlib.Core.Bool.{Bool, true, false, not, _&&_}
 use lib.ListN.{replicate}
 use lib.Dec.{ltb}
 use Rattle.lists.specs.Tables.{choose, any, outside}
-use Rattle.answers.specs.declared.Answer.{Answer}
 use Rattle.answers.specs.declared.Answer.the-variants.{Accepted, Name}
 use Rattle.samples.specs.Formats.{mayRead}
 use Rattle.wire.specs.Names.{goodName, keptName, GoodName}

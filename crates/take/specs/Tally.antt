@@ -1,6 +1,5 @@
 -- The house tally (document 01, "Following a take"): one count for each answer 0 to 16.
-use Prim.Native.Nat.{ℕ, _+_, _≤_, _<_}
-use mathlib.Core.List.{List}
+use Prim.Native.Nat.{ℕ, _+_}
 use lib.ListN.{getD, set, replicate}
 use lib.Dec.{ltb}
 use Rattle.lists.specs.Tables.{choose}

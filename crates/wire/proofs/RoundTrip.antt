@@ -37,7 +37,7 @@ module _ (h : Header) (sixteen : length (h .name) ≡ 16) where
   name-sixteen : length (keptName (h .name)) ≡ 16
   name-sixteen = kept-length (h .name) (le-of-eq sixteen)
 
-  lead-length : length (headerBytes h) ≡ 28
+  pub lead-length : length (headerBytes h) ≡ 28
   unfolding leadOf
   lead-length = simp length-append (omega (arith, name-sixteen))
 

@@ -28,7 +28,7 @@ use Rattle.wire.proofs.Names.{good-exactly}
 
 -- a header as a type gives it: its name has at most 16 bytes
 module _ (h : Header) (short : length (h .name) ≤ 16) where
-  form-by : badForm h ≡ false → GoodForm h
+  pub form-by : badForm h ≡ false → GoodForm h
   form-by e =
       let c = none-holds (ltb 20 (h .rate) ∷ not (maySend (h .format)) ∷ outside 256 (h .frames) ∷ outside 256 (h .channels) ∷ not (goodName (h .name)) ∷ []) e in
       record {
@@ -39,7 +39,7 @@ module _ (h : Header) (short : length (h .name) ≤ 16) where
         named = good-exactly (h .name) short .0 (not-false _ (c .1 .1 .1 .1 .0));
       }
 
-  by-form : GoodForm h → badForm h ≡ false
+  pub by-form : GoodForm h → badForm h ≡ false
   by-form g =
       rw (
         le-ltb 20 (h .rate) (g .rated),
@@ -50,8 +50,8 @@ module _ (h : Header) (short : length (h .name) ≤ 16) where
       )
 
   module _ (given room : ℕ) where
-    judges : Judges (writeRows h given room) (writeRules h given room)
-    judges =
+    pub write-judges : Judges (writeRows h given room) (writeRules h given room)
+    write-judges =
         judged (badForm h) by-form form-by
         (judged-less 1436 (dataSize h)
         (judged-unlike given (dataSize h)
@@ -59,8 +59,8 @@ module _ (h : Header) (short : length (h .name) ≤ 16) where
 
     pub done-exactly : first Done (writeRows h given room) ≡ Done ↔ AllHold (writeRules h given room)
     done-exactly =
-        all-hold-exactly Done (writeRows h given room) (writeRules h given room) judges
-        (none-answers Done (writeRows h given room) (writeRules h given room) judges (none-says Done numberMade (writeRows h given room) tt))
+        all-hold-exactly Done (writeRows h given room) (writeRules h given room) write-judges
+        (none-answers Done (writeRows h given room) (writeRules h given room) write-judges (none-says Done numberMade (writeRows h given room) tt))
 
   module _ (samples out : List ℕ) where
     pub write-done-exactly : writeOf h samples out .answer ≡ Done ↔ AllHold (writeRules h (length samples) (length out))
@@ -71,7 +71,7 @@ module _ (h : Header) (short : length (h .name) ≤ 16) where
     unfolding writeOf
     write-refused-exactly =
         first-broken-exactly Done (writeRows h (length samples) (length out)) (writeRules h (length samples) (length out))
-        (judges (length samples) (length out))
+        (write-judges (length samples) (length out))
 
     -- data over 1,436 bytes are never written
     pub write-done-small : writeOf h samples out .answer ≡ Done → length samples ≤ 1436

@@ -15,7 +15,7 @@ pub struct Written {
     pub length: usize,
 }
 
-fn bad_form(h: Header) -> bool
+pub fn bad_form(h: Header) -> bool
     ensures { λ r. ⌜ r ≡ badForm h ⌝ }
 {
     if h.rate > 20 {

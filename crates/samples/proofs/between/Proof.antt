@@ -12,10 +12,10 @@ use mir.Facts.{toZ-ofZ, toZ-pos}
 use borrow.Author.Needs.{needs}
 use Rattle.samples.specs.declared.Format.{Format}
 use Rattle.samples.specs.Formats.{widthOf, middleOf, has}
-use Rattle.samples.specs.Convert.{biasOf, rank, placeOf, numberAt, rescaled, converted}
-use Rattle.samples.proofs.Machine.{Long, Int, back, wider, wider-int}
+use Rattle.samples.specs.Convert.{biasOf, rank, placeOf, rescaled, converted}
+use Rattle.samples.proofs.Machine.{Long, Int, wider, wider-int}
 use Rattle.samples.proofs.Places.{doubles, rank-sub, sub-mag}
-use Rattle.samples.proofs.Formats.{width-le, width-ge, middle-is, place-lt, place-back, number-has, centred, uncentred}
+use Rattle.samples.proofs.Formats.{width-le, width-ge, middle-is, place-lt, place-back, centred, uncentred}
 use Rattle.samples.proofs.Narrowing.{fits-long}
 use Rattle.samples.proofs.Rescaled.{rescaled-lt}
 use Rattle.samples.proofs.between.Statement.{statement}

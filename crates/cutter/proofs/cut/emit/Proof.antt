@@ -1,6 +1,6 @@
 -- The header, and the samples after it.
 use borrow.Author.Needs.{needs}
-use Rattle.cutter.proofs.Cutting.{packed}
+use Rattle.wire.proofs.Pieces.{packed}
 use Rattle.cutter.proofs.cut.emit.Statement.{statement}
 use Rattle.cutter.proofs.cut.emit.Tie as tie
 

@@ -1,5 +1,5 @@
 -- The bits as a number, the number rescaled, and its bits.
-use Prim.Native.Nat.{ℕ, _≤_, _<_, _-_, _^_}
+use Prim.Native.Nat.{_-_}
 use native.Mathlib.Omega.{arith}
 use borrow.Author.Needs.{needs}
 use Rattle.samples.specs.Wire.{signedOf}

@@ -1,5 +1,5 @@
 -- The number rescaled and 128 added is its place.
-use mathlib.Core.Path.{_≡_, refl, sym, ap, _∙_}
+use mathlib.Core.Path.{_≡_, sym, ap, _∙_}
 use Prim.Native.Nat.{ℕ, _+_, _-_, _^_, _≤_, _<_}
 use native.Mathlib.Omega.{arith}
 use lib.Dec.{T, lit≤}
@@ -13,7 +13,7 @@ use Rattle.samples.specs.declared.Format.the-variants.{Unsigned8}
 use Rattle.samples.specs.Convert.{rank, rescaled, converted}
 use Rattle.samples.specs.Wire.{signedOf, sentOf}
 use Rattle.samples.proofs.Machine.{Int}
-use Rattle.samples.proofs.Places.{doubles, rank-lt, sub-le, plus}
+use Rattle.samples.proofs.Places.{rank-lt, sub-le, plus}
 use Rattle.samples.proofs.Rescaled.{rescaled-lt}
 use Rattle.samples.proofs.Bits.{signed-mag}
 use Rattle.samples.proofs.Moves.{bits8, bits24, room, there}

@@ -1,5 +1,5 @@
 -- Once begun, what is not newer.
-use mathlib.Core.Path.{_≡_, refl, ap, _∙_}
+use mathlib.Core.Path.{_≡_}
 use mathlib.Core.Bool.{Bool, not}
 use Prim.Native.Nat.{ℕ}
 use borrow.Author.Needs.{needs}

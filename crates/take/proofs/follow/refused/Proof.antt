@@ -1,5 +1,4 @@
 -- The answer, and zeros.
-use mathlib.Core.Path.{_≡_, _∙_}
 use borrow.Author.Needs.{needs}
 use Rattle.take.proofs.follow.refused.Statement.{statement}
 use Rattle.take.proofs.follow.refused.Tie as tie
