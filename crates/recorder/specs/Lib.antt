@@ -1,3 +1,4 @@
+pub mod Heard
 pub mod Took
 pub mod Shows
 pub mod Box

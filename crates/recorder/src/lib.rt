@@ -21,6 +21,8 @@ use wire::rate::Rated;
 use wire::read::ReadAnswer;
 use wire::write::Written;
 
+pub mod lent;
+
 // The rate of an index, in Hz.
 pub fn rate(index: u8) -> Rated
     ensures { λ r. ⌜ r ≡ rateOf index ⌝ }

@@ -10,7 +10,7 @@ use Rattle.samples.specs.declared.Format.the-variants.{Unsigned8, Signed
 use Rattle.samples.specs.declared.Indexed.{Indexed}
 use Rattle.samples.specs.declared.Indexed.the-variants.{Known, Unknown}
 
--- the type of an index (document 01, "Types handled")
+-- the type of an index (document 01, "The 28 bytes")
 abbrev pub indexed : ℕ → Indexed
 indexed t =
     choose (eqb t 0) (Known Unsigned8)

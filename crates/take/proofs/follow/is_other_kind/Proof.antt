@@ -10,4 +10,4 @@ is-other-kind-spec =
     (λ c. search (unlike-yes, unlike-no) depth 8)
     (λ c. search (unlike-yes, unlike-no) depth 8)
     (λ c. search (unlike-yes, unlike-no) depth 8)
-    (λ c. search (unlike-yes, unlike-no) depth 8))
+    (λ c. search unlike-no depth 8))
