@@ -23,7 +23,8 @@ def run(words):
         if line.strip():
             last = line.strip()
     status = child.wait()
-    print(f"-- {' '.join(map(str, words))}: {time.time() - began:.0f} s", flush=True)
+    shown = ["python3" if word == sys.executable else word for word in words]
+    print(f"-- {' '.join(shown)}: {time.time() - began:.0f} s", flush=True)
     found = LAST.match(last)
     passed, failed = (int(found.group(1)), int(found.group(2))) if found else (0, 0)
     if passed == 0 or (status != 0 and failed == 0):
