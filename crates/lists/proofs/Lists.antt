@@ -2,12 +2,12 @@
 use mathlib.Core.Path.{_≡_, refl, sym, _∙_}
 use mathlib.Core.List.{List, [], _++_, append-assoc, append-nil}
 use Prim.Native.Nat.{ℕ, zero, suc, _+_, _-_, _*_, _<_, _≤_}
-use native.Mathlib.Nat.{not-suc-le-zero, zero-add, le-of-eq, suc-mul, zero-mul, add-sub-cancel-left, le-antisymm, mul-le-mul-right}
+use native.Mathlib.Nat.{not-suc-le-zero, zero-add, le-of-eq, suc-mul, zero-mul, add-sub-cancel-left, min-le-left, le-antisymm, mul-le-mul-right}
 use native.Mathlib.Omega.{arith}
 use native.Mathlib.Decide.{decLt}
 use native.Mathlib.Numerals.{add-one}
 use lib.ListN.{length, take, drop, length-append, length-take, length-drop, take-append-drop, drop-of-length-le, List·getD-append}
-use lib.Seq.{sets, sets-eq, take-at, drop-at, drop-drop, length-take-le, take-add, getD-append-add, getD-take, getD-drop}
+use lib.Seq.{sets, sets-eq, take-at, drop-at, drop-drop, length-take-le, take-length, take-add, getD-append-add, getD-take, getD-drop}
 use borrow.Rule.Slice.PartMut.{putMid}
 use Rattle.lists.specs.Lists.{byte, put, upTo}
 
@@ -85,6 +85,15 @@ module _ (d s : List ℕ) (at : ℕ) (h : at ≤ length d) where
 pub lent : (xs ys : List ℕ) (a n : ℕ) → length ys ≡ n → putMid a n xs ys ≡ put xs a ys
 unfolding put
 lent xs ys a n h = rw (← h)
+
+-- a part of n bytes that src was copied to comes back with src in it
+pub copied : (xs ys src : List ℕ) (a n : ℕ) → n ≡ length src
+    → ys ≡ take (length src) src ++ drop (length src) (take (a + n - a) (drop a xs)) → putMid a (a + n - a) xs ys ≡ put xs a src
+copied xs ys src a n l p =
+    let m : a + n - a ≡ length src = add-sub-cancel-left a n ∙ l in
+    let w : length (take (length src) (drop a xs)) ≤ length src = rw length-take (min-le-left (length src) (length (drop a xs))) in
+    let e : ys ≡ src = p ∙ rw (m, take-length, drop-of-length-le (take (length src) (drop a xs)) w) (append-nil src) in
+    rw e (lent xs src a (a + n - a) (sym m))
 
 -- a lent part that is back leaves the length
 pub kept : (a b : List ℕ) (n : ℕ) → length a ≡ length b → length b ≡ n → length a ≡ n

@@ -58,7 +58,7 @@ pub fn refusal(h: Header, given: usize, room: usize) -> Made
 }
 
 // Writes `src` over `out` from `at`.
-fn place(src: &[u8], out: &mut [u8], at: usize)
+pub fn place(src: &[u8], out: &mut [u8], at: usize)
     requires { ⌜ at + length (now src) ≤ length (now out) ⌝ }
     ensures { λ _. ⌜ now (out .exit) ≡ put (now (out .entry)) at (now (src .entry)) ⌝ }
 {
