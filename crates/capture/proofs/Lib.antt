@@ -1,0 +1,4 @@
+pub mod Following
+pub mod Cutting
+pub mod Reading
+pub mod Joining

@@ -1,0 +1,85 @@
+// Follows the stream that `wanted.bin` names through the capture on standard input, and writes its track to `track.bin`.
+ghost use mathlib.Core.Path.{_≡_};
+ghost use Prim.Native.Nat.{_+_, _/_, _^_, _≤_, _<_};
+use take::Take;
+use take::Tally;
+
+mod block;
+
+// What is kept from one block of the capture to the next, and how many bytes came.
+struct Going {
+    take: Take,
+    tally: Tally,
+    index: u64,
+    length: usize,
+}
+
+// One block: as many records as came, and their lines.
+fn follow_some(take: Take, tally: Tally, index: u64, track: &mut [u8]) -> Going
+    requires { ⌜ index < 2 ^ 63 ⌝ }
+    ensures { λ r. ⌜ (r .length ≤ 64768) × (r .index ≡ index + r .length / 1472) ⌝ }
+{
+    let mut block = [0u8; 64768];
+    let mut lines = [0u8; 4620];
+    let n = files::input(&mut block);
+    let kept = block::follow(take, tally, index, &block[..n], &mut lines, track);
+    let length = kept.length;
+    files::print(&lines[..length]);
+    if n % 1472 != 0 {
+        files::print(b"cut\n");
+    }
+    let take = kept.take;
+    let tally = kept.tally;
+    Going {
+        take,
+        tally,
+        index: index + (n / 1472) as u64,
+        length: n,
+    }
+}
+
+// The whole capture. No capture has 2^63 records, but a proved loop has to end.
+fn follow_all(take: Take, tally: Tally, track: &mut [u8]) {
+    let mut take = take;
+    let mut tally = tally;
+    let mut index = 0u64;
+    while index < 9223372036854775808 {
+        let going = follow_some(take, tally, index, track);
+        if going.length < 64768 {
+            return;
+        }
+        take = going.take;
+        tally = going.tally;
+        index = going.index;
+    }
+}
+
+fn write_track(track: &[u8]) {
+    let path = b"track.bin";
+    let file = files::begin(path);
+    if file < 0 {
+        return;
+    }
+    files::append(file, path, track);
+    files::finish(file, path);
+}
+
+fn main() {
+    let mut wanted = [0u8; 21];
+    let n = files::load(b"wanted.bin", &mut wanted);
+    if n != 20 {
+        files::print(b"no stream\n");
+        return;
+    }
+    let mut track = [0u8; 49152];
+    let opened = capture::jobs::open(&wanted[..n], &mut track);
+    let answer = opened.answer;
+    if answers::number(answer) != 0 {
+        files::print(b"no stream\n");
+        return;
+    }
+    let take = opened.take;
+    follow_all(take, recorder::tally(), &mut track);
+    files::is_input_broken();
+    write_track(&track);
+}
