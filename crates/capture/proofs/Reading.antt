@@ -48,9 +48,9 @@ module _ (r s : List ℕ) (r-long : length r ≡ 1472) (s-long : length s ≡ 14
   padding-unseen =
       let n : lengthOf r ≡ lengthOf s = same-four 4 (omega arith) in
       let d : datagramOf r ≡ datagramOf s =
-          datagram-held r r-long short
-          ∙ sym (inner r r-long) ∙ ap (λ (l : List ℕ). drop 8 l) e ∙ inner s s-long
-          ∙ ap (λ (k : ℕ). take k (drop 8 s)) n ∙ sym (datagram-held s s-long (rw (← n) short))
+      datagram-held r r-long short
+      ∙ sym (inner r r-long) ∙ ap (λ (l : List ℕ). drop 8 l) e ∙ inner s s-long
+      ∙ ap (λ (k : ℕ). take k (drop 8 s)) n ∙ sym (datagram-held s s-long (rw (← n) short))
       in
       let a : addressOf r ≡ addressOf s = same-four 0 (omega arith) in
       ap (λ (l : List ℕ). record { datagram = l; address = addressOf r }) d ∙ ap (λ (k : ℕ). record { datagram = datagramOf s; address = k }) a
