@@ -6,4 +6,3 @@ pub mod Cutting
 pub mod Alike
 pub mod Packets
 pub mod Whole
-pub mod Examples

@@ -6,13 +6,7 @@ use native.Mathlib.Nat.{suc-mul, le-div-iff-mul-le, div-eq-of-lt-le, div-mul-le-
 use native.Mathlib.Omega.{arith}
 use native.Mathlib.Decide.{decLt}
 use Rattle.lists.proofs.Lists.{one-more}
-use Rattle.cutter.specs.Schedule.{Schedule, scheduleOf}
-
--- packet k of the schedule has frame x
-pub record Holds (s : Schedule) (k x : ℕ) : Type 0 where
-  pub below : k < s .packets
-  pub from : s .first k ≤ x
-  pub to : x < s .first k + s .count k
+use Rattle.cutter.specs.Schedule.{scheduleOf, Holds}
 
 -- a track of T frames at N
 module _ (T N : ℕ) (some : 0 < N) where
@@ -21,9 +15,6 @@ module _ (T N : ℕ) (some : 0 < N) where
       let d = le-div-iff-mul-le {k = N} {x = suc k} {y = T + (N - 1)} some in
       let m = suc-mul k N in
       ((λ h. omega (arith, d .0 h)), (λ h. d .1 (omega arith)))
-
-  pub first-next : (k : ℕ) → scheduleOf T N .first (k + 1) ≡ scheduleOf T N .first k + N
-  first-next k = one-more k N
 
   pub none-after : (k : ℕ) → scheduleOf T N .packets ≤ k → T ≤ k * N
   none-after k l = elim (decLt (k * N) T) [ yes g ↦ absurd (omega (arith, packet-exactly k .1 g)) | no g ↦ omega arith ]
@@ -54,3 +45,11 @@ module _ (T N : ℕ) (some : 0 < N) where
 
   pub held-once : (x k : ℕ) → Holds (scheduleOf T N) k x → x / N ≡ k
   held-once x k h = div-eq-of-lt-le N (h .from) (omega (arith, one-more k N, h .to))
+
+  -- a packet holds frames of the track alone
+  pub held-within : (x k : ℕ) → Holds (scheduleOf T N) k x → x < T
+  held-within x k h = omega (arith, within-track k (h .below), h .to)
+
+  -- a number from a packet's first frame up to its last is enough
+  pub holds-from : (x k : ℕ) → scheduleOf T N .first k ≤ x → x < scheduleOf T N .first k + scheduleOf T N .count k → Holds (scheduleOf T N) k x
+  holds-from x k a b = record { below = packet-exactly k .1 (omega arith); from = a; to = b }

@@ -95,10 +95,6 @@ copied xs ys src a n l p =
     let e : ys ≡ src = p ∙ rw (m, take-length, drop-of-length-le (take (length src) (drop a xs)) w) (append-nil src) in
     rw e (lent xs src a (a + n - a) (sym m))
 
--- a lent part that is back leaves the length
-pub kept : (a b : List ℕ) (n : ℕ) → length a ≡ length b → length b ≡ n → length a ≡ n
-kept a b n p q = p ∙ q
-
 -- ---- n lists of w elements each
 
 module _ (w : ℕ) (f : ℕ → List ℕ) (each : (k : ℕ) → length (f k) ≡ w) where

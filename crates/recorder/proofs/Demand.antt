@@ -28,7 +28,7 @@ use Rattle.recorder.specs.Box.{Event, Box, opened, after}
 use Rattle.recorder.specs.Sender.{Heard, Audio, Comes, NoOtherAudio, acceptedIn, Each, Recorded, sentNumber}
 use Rattle.recorder.proofs.Accepting.{Ordered}
 use Rattle.recorder.proofs.Standing.{begins}
-use Rattle.recorder.proofs.Steps.{Packets, Good, good, shows}
+use Rattle.recorder.proofs.Steps.{Packets, Good, good, shows, heard-one as packet-one}
 use Rattle.recorder.proofs.Sent.{type-known, packets-of}
 use Rattle.recorder.proofs.Determined.{Settled, recorded-one}
 
@@ -49,7 +49,7 @@ module _ (h : Header) (sixteen : length (h .name) ≡ 16) (sent : List ℕ) (sen
 
   -- a datagram is one packet at most
   pub heard-one : (e : Event) (j k : ℕ) → Heard h sent address e j → Heard h sent address e k → j ≡ k
-  heard-one e j k a b = packets .apart j k (a .0) (b .0) (sym (a .1) ∙ b .1)
+  heard-one = packet-one _ _ h (typed .0) _ _ packets address
 
   -- the box: opened for that name and address on a lent track, whatever it holds
   module _ (name : List ℕ) (short : length name ≤ 16) (same : nameOf name ≡ nameOf (h .name)) (tally : Tally) (track : List ℕ) where
@@ -69,10 +69,10 @@ module _ (h : Header) (sixteen : length (h .name) ≡ 16) (sent : List ℕ) (sen
         record { same-length = g .sized; slots = shows _ _ h (typed .0) _ _ packets address track (took past) (box past) g; rest = g .rest }
 
     -- what was accepted is settled by the history
-    pub accepted-settled : (past : List Event) → Each (Comes h sent address) past → Settled (recordsHeld sent) (h .frames) (took past)
+    pub accepted-settled : (past : List Event) → Each (Comes h sent address) past → Settled (took past)
     accepted-settled past w =
         let g = each past w in
-        record { begun = begins _ _ (packets .some) (packets .few) h address {A = took past} (g .stands); settled = g .settled; inside = g .inside }
+        record { begun = begins _ _ (packets .some) (packets .few) h address {A = took past} (g .stands); settled = g .settled }
 
     -- the packet accepted first is one, and the lowest
     pub accepted-ordered : (past : List Event) → Each (Comes h sent address) past → Ordered (took past)

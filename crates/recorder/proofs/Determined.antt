@@ -14,19 +14,18 @@ use Rattle.samples.proofs.Bits.{signed-bits}
 use Rattle.wire.specs.declared.header.Header.{Header}
 use Rattle.track.specs.Records.{recordsHeld, slotAt, slotNumber}
 use Rattle.track.proofs.Laws.{slot-fits}
-use Rattle.cutter.specs.Schedule.{scheduleOf}
-use Rattle.cutter.proofs.Scheduling.{held-by, held-once, within-track}
+use Rattle.cutter.specs.Schedule.{scheduleOf, Holds}
+use Rattle.cutter.proofs.Scheduling.{held-by, held-once, held-within}
 use Rattle.recorder.specs.Took.{Took}
-use Rattle.recorder.specs.Shows.{Holds, Shows}
+use Rattle.recorder.specs.Shows.{Shows}
 use Rattle.recorder.specs.Sender.{sentNumber, Recorded}
 
 -- what was accepted is known: whether any, which first, and of each packet whether
-pub record Settled (T N : ℕ) (A : Took) : Type 0 where
+pub record Settled (A : Took) : Type 0 where
   pub begun : ((j : ℕ) → A .taken j → ⊥) ⊎ ((k : ℕ) × A .first k)
   pub settled : (j : ℕ) → Dec (A .taken j)
-  pub inside : (j : ℕ) → A .taken j → j < scheduleOf T N .packets
 
-module _ {Frame : Type 0} (silence : Frame) (source : ℕ → Frame) (T N : ℕ) (some : 0 < N) (R : ℕ) (A : Took) (known : Settled T N A) where
+module _ {Frame : Type 0} (silence : Frame) (source : ℕ → Frame) (T N : ℕ) (some : 0 < N) (R : ℕ) (A : Took) (known : Settled A) where
   -- what is shown has one value at every record
   pub shown-one : (f g : ℕ → Frame) → Shows silence source (scheduleOf T N) R A f → Shows silence source (scheduleOf T N) R A g → (i : ℕ) → i < R → f i ≡ g i
   shown-one f g p q i l = ⊎-elim (λ n. p .none n i l ∙ sym (q .none n i l)) begun (known .begun)
@@ -38,15 +37,15 @@ module _ {Frame : Type 0} (silence : Frame) (source : ℕ → Frame) (T N : ℕ)
           silent n = p .from k a .other i l n ∙ sym (q .from k a .other i l n)
 
           past : (k * N + i < T → ⊥) → (j : ℕ) → A .taken j → Holds (scheduleOf T N) j (k * N + i) → ⊥
-          past h j t w = omega (arith, within-track T N some j (known .inside j t), w .1, h)
+          past h j t w = h (held-within T N some (k * N + i) j w)
 
           one : (j : ℕ) → A .taken j → Holds (scheduleOf T N) j (k * N + i) → (k * N + i) / N ≡ j
-          one j t w = held-once T N some (k * N + i) j (record { below = known .inside j t; from = w .0; to = w .1 })
+          one j t w = held-once T N some (k * N + i) j w
 
           inside : k * N + i < T → Dec (A .taken ((k * N + i) / N)) → f i ≡ g i
           inside h (yes t) =
               let w = held-by T N some (k * N + i) h in
-              p .from k a .heard i _ l t (w .from, w .to) ∙ sym (q .from k a .heard i _ l t (w .from, w .to))
+              p .from k a .heard i _ l t w ∙ sym (q .from k a .heard i _ l t w)
           inside h (no n) = silent (λ j t w. n (rw (one j t w) t))
 
 -- three bytes are told from their sum
@@ -89,7 +88,7 @@ module _ (t u : List ℕ) (bt : (j : ℕ) → byte t j < 256) (bu : (j : ℕ) �
       at-2 : (j % 3 ≡ 0 → ⊥) → (j % 3 ≡ 1 → ⊥) → j / 24 * 24 + j % 24 / 3 * 3 + 2 ≡ j
       at-2 q r = omega arith
 
-pub recorded-one : (h : Header) (sent : List ℕ) (A : Took) (before t u : List ℕ) → 0 < h .frames → Settled (recordsHeld sent) (h .frames) A
+pub recorded-one : (h : Header) (sent : List ℕ) (A : Took) (before t u : List ℕ) → 0 < h .frames → Settled A
     → ((j : ℕ) → byte t j < 256) → ((j : ℕ) → byte u j < 256) → Recorded h sent A before t → Recorded h sent A before u → t ≡ u
 recorded-one h sent A before t u some known bt bu p q =
     ext-getD 0 t u (p .same-length ∙ sym (q .same-length)) (λ j l. elim (decLt j (recordsHeld before * 24)) [

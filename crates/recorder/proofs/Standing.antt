@@ -4,7 +4,7 @@ use mathlib.Core.Logic.{_⊎_, inl, inr, ⊎-elim}
 use mathlib.Core.Bool.{true, false}
 use mathlib.Core.List.{List}
 use Prim.Native.Nat.{ℕ, _+_, _-_, _*_, _%_, _^_, _≤_, _<_}
-use native.Mathlib.Nat.{le-div-iff-mul-le, mul-le-mul-right, add-mul, sub-add-cancel, sub-self, zero-mul, le-of-eq}
+use native.Mathlib.Nat.{add-mul, sub-add-cancel, sub-self, zero-mul, le-of-eq}
 use native.Mathlib.Decide.{decLt}
 use native.Mathlib.Omega.{arith}
 use lib.ListN.{length}
@@ -13,33 +13,20 @@ use Rattle.wire.specs.declared.header.Header.{Header}
 use Rattle.wire.specs.Names.{nameOf, keptName, GoodName}
 use Rattle.wire.specs.Header.{fieldOf, headerOf}
 use Rattle.wire.specs.Read.{Readable}
+use Rattle.wire.specs.Again.{keptHeader}
 use Rattle.wire.proofs.Names.{kept-name, kept-good-name}
 use Rattle.take.specs.declared.Take.{Take}
 use Rattle.take.specs.Take.{GoodShape, unbegun}
 use Rattle.take.specs.Follow.{distance, placeOf, followedBy, SameShape, Newer, Followable}
-use Rattle.cutter.specs.Schedule.{Schedule, scheduleOf}
+use Rattle.cutter.specs.Schedule.{scheduleOf}
+use Rattle.cutter.specs.Cut.{packetHeader}
+use Rattle.cutter.proofs.Scheduling.{count-some, count-few, count-full}
 use Rattle.recorder.specs.Took.{Took, Joins, hears}
 use Rattle.recorder.proofs.Accepting.{Ordered}
 
--- ---- the schedule: packet k's frames start at k * N
-
-module _ (T N : ℕ) (some : 0 < N) where
-  abbrev s : Schedule
-  s = scheduleOf T N
-
-  pub starts : (k : ℕ) → k < s .packets → k * N < T
-  starts k h = omega (arith, le-div-iff-mul-le some .0 h)
-
-  pub counts : (k : ℕ) → k < s .packets → (1 ≤ s .count k) × (s .count k ≤ N)
-  counts k h = let l = starts k h in (omega arith, omega arith)
-
-  -- a packet before the last has N frames
-  pub whole : (j k : ℕ) → j < k → k < s .packets → s .count j ≡ N
-  whole j k h l = omega (arith, starts k l, mul-le-mul-right N h)
-
-  -- places are the differences of starts
-  pub place-add : (j k : ℕ) → j ≤ k → (k - j) * N + j * N ≡ k * N
-  place-add j k h = rw (← add-mul, sub-add-cancel)
+-- places are the differences of starts
+pub place-add : (N j k : ℕ) → j ≤ k → (k - j) * N + j * N ≡ k * N
+place-add N j k h = rw (← add-mul, sub-add-cancel)
 
 -- ---- the take
 
@@ -50,16 +37,23 @@ module _ (T N : ℕ) (some : 0 < N) (few : scheduleOf T N .packets ≤ 2 ^ 31) (
 
   -- the header of packet k, as it is read
   abbrev pub readHeader : ℕ → Header
-  readHeader k = record {
+  readHeader k = keptHeader (packetHeader h (scheduleOf T N) k)
+
+  -- a begun take: packet k₀ was accepted first, and packet k, the newest, lies at a place
+  abbrev begunWith : ℕ → ℕ → ℕ → Take
+  begunWith k₀ k place = record {
+    name = keptName (h .name);
+    address = address;
+    begun = true;
     rate = h .rate;
-    frames = scheduleOf T N .count k;
     channels = h .channels;
     format = h .format;
-    name = keptName (h .name);
-    counter = (h .counter + k) % 2 ^ 32;
+    frames = scheduleOf T N .count k₀;
+    newest = (h .counter + k) % 2 ^ 32;
+    place = place;
   }
 
-  -- a begun take, where the packets A were accepted
+  -- where the packets A were accepted
   pub record Stands (A : Took) (t : Take) : Type 0 where
     pub first : ℕ
     pub newest : ℕ
@@ -67,17 +61,7 @@ module _ (T N : ℕ) (some : 0 < N) (few : scheduleOf T N .packets ≤ 2 ^ 31) (
     pub is-in : A .taken newest
     pub is-newest : (j : ℕ) → A .taken j → j ≤ newest
     pub sent : newest < P
-    pub is : t ≡ record {
-      name = keptName (h .name);
-      address = address;
-      begun = true;
-      rate = h .rate;
-      channels = h .channels;
-      format = h .format;
-      frames = scheduleOf T N .count first;
-      newest = (h .counter + newest) % 2 ^ 32;
-      place = (newest - first) * N;
-    }
+    pub is : t ≡ begunWith first newest ((newest - first) * N)
 
   abbrev pub Follows : Took → Take → Type 0
   Follows A t = (((j : ℕ) → A .taken j → ⊥) × (t ≡ unbegun (h .name) address)) ⊎ Stands A t
@@ -99,7 +83,7 @@ module _ (T N : ℕ) (some : 0 < N) (few : scheduleOf T N .packets ≤ 2 ^ 31) (
     first-le = o .first-lowest (st .first) (st .newest) (st .is-first) (st .is-in)
 
     size-is : st .newest < k → scheduleOf T N .count (st .first) ≡ N
-    size-is u = whole T N some (st .first) k (omega (arith, first-le)) l
+    size-is u = let f = first-le in count-full T N some (st .first) (omega arith) (omega arith)
 
     away-is : st .newest < k → distance t (readHeader k) ≡ k - st .newest
     away-is u = rw (st .is) (omega (arith, st .sent))
@@ -110,7 +94,7 @@ module _ (T N : ℕ) (some : 0 < N) (few : scheduleOf T N .packets ≤ 2 ^ 31) (
         let d = away-is u in
         let e : placeOf t (readHeader k) ≡ (st .newest - st .first) * N + distance t (readHeader k) * N = rw (st .is, size-is u) in
         e ∙ rw d
-        (omega (arith, place-add T N some (st .first) (st .newest) f, place-add T N some (st .newest) k (omega arith), place-add T N some (st .first) k (omega arith)))
+        (omega (arith, place-add N (st .first) (st .newest) f, place-add N (st .newest) k (omega arith), place-add N (st .first) k (omega arith)))
 
     distance-is : distance t (readHeader k) ≡ ((h .counter + k) % 2 ^ 32 + (2 ^ 32 - (h .counter + st .newest) % 2 ^ 32)) % 2 ^ 32
     distance-is = rw (st .is)
@@ -163,19 +147,19 @@ module _ (T N : ℕ) (some : 0 < N) (few : scheduleOf T N .packets ≤ 2 ^ 31) (
           (by-rules (unbegun (h .name) address) refl refl (λ e. absurd (not-begun e)) (λ e. absurd (not-begun e)) (λ e. absurd (not-begun e)) (omega (arith, j .fits .alone))))
           (λ st.
           let u : st .newest < k = j .newer (st .newest) (st .is-in) in
-          let c = counts T N some k l in
+          let c = count-few T N some k l in
           let b = st .sent in
           by-rules t (rw (st .is)) (rw (st .is))
           (λ e. rw (st .is) (record { channels-few = shape; frames-few = frames-few st; rated = rated; typed = typed }))
           (λ e. rw (st .is) (record { same-rate = refl; same-channels = refl; same-format = refl; no-longer = omega (arith, size-is o st k l u) }))
           (λ e. (omega (arith, away-is o st k l u), omega (arith, away-is o st k l u)))
-          (omega (arith, place-is o st k l u, j .fits .behind (st .first) (st .is-first), place-add T N some (st .first) k (omega (arith, first-le o st k l)))))
+          (omega (arith, place-is o st k l u, j .fits .behind (st .first) (st .is-first), place-add N (st .first) k (omega (arith, first-le o st k l)))))
           w
         where
           frames-few : (st : Stands A t) → (1 ≤ scheduleOf T N .count (st .first)) × (scheduleOf T N .count (st .first) ≤ 256)
           frames-few st =
-              let c = counts T N some (st .first) (omega (arith, st .sent, first-le o st k l)) in
-              (c .0, omega (arith, c .1))
+              let m : st .first < P = omega (arith, st .sent, first-le o st k l) in
+              (count-some T N some (st .first) m, omega (arith, count-few T N some (st .first) m))
 
       pub joined : Follows A t → Followable t address d R → Joins (scheduleOf T N) R A k
       joined w f =
@@ -187,7 +171,7 @@ module _ (T N : ℕ) (some : 0 < N) (few : scheduleOf T N .packets ≤ 2 ^ 31) (
           let u : st .newest < k = is-newer o st k l (n (rw (st .is))) in
           let e : placeOf t (readHeader k) ≡ (k - st .first) * N = place-is o st k l u in
           let f : st .first ≤ k = omega (arith, first-le o st k l) in
-          let g : (k - st .first) * N + st .first * N ≡ k * N = place-add T N some (st .first) k f in
+          let g : (k - st .first) * N + st .first * N ≡ k * N = place-add N (st .first) k f in
           let b : (k * N - st .first * N) + scheduleOf T N .count k ≤ R = omega (arith, p, e, g) in
           record {
             newer = λ m a. omega (arith, st .is-newest m a);
@@ -206,26 +190,10 @@ module _ (T N : ℕ) (some : 0 < N) (few : scheduleOf T N .packets ≤ 2 ^ 31) (
         newest-now : (m : ℕ) → B .taken m → m ≤ k
         newest-now m = ⊎-elim (λ a. omega (arith, j .newer m a)) (λ x. le-of-eq (one m (x .0)))
 
-        -- the take with its place
-        kept : ℕ → ℕ → Take
-        kept k₀ p = record {
-          name = keptName (h .name);
-          address = address;
-          begun = true;
-          rate = h .rate;
-          channels = h .channels;
-          format = h .format;
-          frames = scheduleOf T N .count k₀;
-          newest = (h .counter + k) % 2 ^ 32;
-          place = p;
-        }
-
-        as-kept : (st : Stands A t) → followedBy t (readHeader k) ≡ kept (st .first) (placeOf t (readHeader k))
-        unfolding kept
-        as-kept st = rw (st .is)
+        as-begun : (st : Stands A t) → followedBy t (readHeader k) ≡ begunWith (st .first) k (placeOf t (readHeader k))
+        as-begun st = rw (st .is)
 
         pub next : Follows A t → Stands B (followedBy t (headerOf d))
-        unfolding kept
         next w = subst (λ (x : Header). Stands B (followedBy t x)) (sym header) (⊎-elim
             (λ x. record {
               first = k;
@@ -245,7 +213,7 @@ module _ (T N : ℕ) (some : 0 < N) (few : scheduleOf T N .packets ≤ 2 ^ 31) (
               is-in = inr (is, j);
               is-newest = newest-now;
               sent = l;
-              is = as-kept st ∙ ap (kept (st .first)) (place-is o st k l u);
+              is = as-begun st ∙ ap (begunWith (st .first) k) (place-is o st k l u);
             })
             w)
 

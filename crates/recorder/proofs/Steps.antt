@@ -2,7 +2,7 @@
 use mathlib.Core.Path.{_≡_, refl, sym, ap, _∙_, subst}
 use mathlib.Core.Logic.{_⊎_, inl, inr, ⊎-elim, _↔_}
 use mathlib.Core.List.{List, [], _∷_}
-use Prim.Native.Nat.{ℕ, _+_, _-_, _*_, _/_, _%_, _^_, _≤_, _<_}
+use Prim.Native.Nat.{ℕ, _+_, _-_, _*_, _/_, _^_, _≤_, _<_}
 use native.Mathlib.Nat.{mul-le-mul-right, suc-mul}
 use native.Mathlib.Decide.{ℕ-discrete, decLt}
 use native.Mathlib.Numerals.{add-one}
@@ -21,7 +21,8 @@ use Rattle.samples.specs.Wire.{signedOf}
 use Rattle.wire.specs.declared.header.Header.{Header}
 use Rattle.wire.specs.Names.{nameOf, keptName, GoodName}
 use Rattle.wire.specs.Header.{fieldOf, headerOf}
-use Rattle.wire.specs.Read.{readOf, Readable}
+use Rattle.wire.specs.Read.{Readable}
+use Rattle.wire.specs.Again.{keptHeader}
 use Rattle.wire.proofs.Names.{kept-name, kept-length}
 use Rattle.wire.proofs.Reading.{read-accepted-exactly}
 use Rattle.track.specs.Records.{recordsHeld, slotNumber, laidOf, packetSlot}
@@ -32,10 +33,12 @@ use Rattle.take.specs.Take.{unbegun}
 use Rattle.take.specs.Follow.{placeOf, answerOf, laidKnown, followedTrack, Followable}
 use Rattle.take.proofs.Exactly.{follow-accepted-exactly, follow-refused, follow-accepted, refused-track, follow-track, open-accepted}
 use Rattle.cutter.specs.Schedule.{Schedule, scheduleOf}
+use Rattle.cutter.specs.Cut.{packetHeader}
+use Rattle.cutter.proofs.Scheduling.{holds-from}
 use Rattle.recorder.specs.Took.{Took, nothing, Joins, hears, tookAfter}
 use Rattle.recorder.specs.Shows.{Shows}
 use Rattle.recorder.specs.Box.{Event, Box, opened, follows, after}
-use Rattle.recorder.specs.Sender.{heardOf, Each}
+use Rattle.recorder.specs.Sender.{HeardAs, AudioOf, heardOf, Each}
 use Rattle.recorder.proofs.Accepting.{Ordered, nothing-ordered, hears-ordered}
 use Rattle.recorder.proofs.Paint.{Within, Paints, Laid, paint, repaint, unpainted}
 use Rattle.recorder.proofs.Standing.{place-add, readHeader, Follows, begins, follows-same, followed, joined, next, placed}
@@ -52,14 +55,7 @@ pub record Packets (T N : ℕ) (h : Header) (f : Format) (bytes : ℕ → List �
   pub typed : h .format ≤ 3
   pub format : indexed (h .format) ≡ Known f
   pub readable : (k : ℕ) → k < scheduleOf T N .packets → Readable (bytes k)
-  pub header : (k : ℕ) → k < scheduleOf T N .packets → headerOf (bytes k) ≡ record {
-    rate = h .rate;
-    frames = scheduleOf T N .count k;
-    channels = h .channels;
-    format = h .format;
-    name = keptName (h .name);
-    counter = (h .counter + k) % 2 ^ 32;
-  }
+  pub header : (k : ℕ) → k < scheduleOf T N .packets → headerOf (bytes k) ≡ keptHeader (packetHeader h (scheduleOf T N) k)
   pub below : (k o c : ℕ) → k < scheduleOf T N .packets → o < scheduleOf T N .count k → packetSlot f (bytes k) 28 (h .channels) o c < 2 ^ 24
   pub shown : (k o c : ℕ) → k < scheduleOf T N .packets → o < scheduleOf T N .count k → c < 8
       → signedOf 24 (packetSlot f (bytes k) 28 (h .channels) o c) ≡ source (k * N + o) c
@@ -71,11 +67,11 @@ module _ (T N : ℕ) (h : Header) (f : Format) (bytes : ℕ → List ℕ) (sourc
 
   -- the event is packet k, from the sender's address
   abbrev pub Heard : Event → ℕ → Type 0
-  Heard e k = (k < s .packets) × (e .datagram ≡ bytes k) × (e .address ≡ address)
+  Heard e k = HeardAs s bytes address e k
 
   -- any other: reading alone refuses it, or its name or address is another's
   abbrev pub Other : Event → Type 0
-  Other e = (readOf (e .datagram) .answer ≡ Accepted) × (nameOf (fieldOf (e .datagram)) ≡ nameOf (h .name)) × (e .address ≡ address) → ⊥
+  Other e = AudioOf (h .name) address e → ⊥
 
   pub heard-one : (e : Event) (j k : ℕ) → Heard e j → Heard e k → j ≡ k
   heard-one e j k a b = x .apart j k (a .0) (b .0) (sym (a .1) ∙ b .1)
@@ -98,7 +94,6 @@ module _ (T N : ℕ) (h : Header) (f : Format) (bytes : ℕ → List ℕ) (sourc
       pub sized : length (b .track) ≡ length track₀
       pub stands : Follows T N (x .some) (x .few) h address A (b .take)
       pub ordered : Ordered A
-      pub inside : (j : ℕ) → A .taken j → j < s .packets
       pub settled : (j : ℕ) → Dec (A .taken j)
       pub rest : (j : ℕ) → R * 24 ≤ j → byte (b .track) j ≡ byte track₀ j
       pub silent : ((j : ℕ) → A .taken j → ⊥) → (i c : ℕ) → i < R → c < 8 → slotNumber (b .track) i c ≡ pos 0
@@ -125,9 +120,6 @@ module _ (T N : ℕ) (h : Header) (f : Format) (bytes : ℕ → List ℕ) (sourc
       ordered-now : Ordered B
       ordered-now = hears-ordered s R A (g .ordered) (Heard e) (heard-one e) (begins T N (x .some) (x .few) h address (g .stands))
 
-      inside-now : (j : ℕ) → B .taken j → j < s .packets
-      inside-now j = ⊎-elim (g .inside j) (λ y. y .0 .0)
-
       -- a datagram that is refused, where no packet joins: all is as it was
       refused-good : (answer ≡ Accepted → ⊥) → ((j : ℕ) → Heard e j → Joins s R A j → ⊥) → Good B (follows b e)
       refused-good z none =
@@ -138,7 +130,6 @@ module _ (T N : ℕ) (h : Header) (f : Format) (bytes : ℕ → List ℕ) (sourc
             sized = ap length ek ∙ g .sized;
             stands = rw et (follows-same T N (x .some) (x .few) h address (λ j. inl) back (λ j. inl) (g .stands));
             ordered = ordered-now;
-            inside = inside-now;
             settled = λ j. settle j (g .settled j);
             rest = λ j l. ap (λ (t : List ℕ). byte t j) ek ∙ g .rest j l;
             silent = λ n i c l m. ap (λ (t : List ℕ). slotNumber t i c) ek ∙ g .silent (λ j a. n j (inl a)) i c l m;
@@ -187,9 +178,6 @@ module _ (T N : ℕ) (h : Header) (f : Format) (bytes : ℕ → List ℕ) (sourc
         placed-at =
             placed T N (x .some) (x .few) h address (x .named) (x .short) (x .channels-few) (x .rated) (x .typed) (x .small) k (is .0) (e .datagram) (readable-is k is) (header-is k is) R
             (g .ordered) (b .take) (Heard e) is (one k is) j (g .stands)
-
-        first-now : (k₀ : ℕ) × B .first k₀
-        first-now = ⊎-elim (λ n. (k, inr (n, is, j))) (λ w. (w .0, inl (w .1))) (begins T N (x .some) (x .few) h address (g .stands))
 
         room : place + s .count k ≤ R
         room = omega (arith, followable .fits, ap (λ (y : Header). y .frames) (header-is k is))
@@ -241,7 +229,6 @@ module _ (T N : ℕ) (h : Header) (f : Format) (bytes : ℕ → List ℕ) (sourc
                   (next T N (x .some) (x .few) h address (x .named) (x .short) (x .channels-few) (x .rated) (x .typed) (x .small) k (is .0) (e .datagram) (readable-is k is) (header-is k is) R
                   (g .ordered) (b .take) (Heard e) is (one k is) j (g .stands)));
               ordered = ordered-now;
-              inside = inside-now;
               settled = λ n. settle n (g .settled n);
               rest = λ n l. ap (λ (t : List ℕ). byte t n) track-is
                   ∙ laid-after (b .track) place (s .count k) (packetSlot f (e .datagram) 28 (h .channels)) in-track n (omega (arith, room)) ∙ g .rest n l;
@@ -311,7 +298,6 @@ module _ (T N : ℕ) (h : Header) (f : Format) (bytes : ℕ → List ℕ) (sourc
             sized = ap length ek ∙ cleared-length track₀;
             stands = inl ((λ j a. a), ap (λ r. r .take) (o .0) ∙ kept-same);
             ordered = nothing-ordered s R;
-            inside = λ j a. absurd a;
             settled = λ j. no (λ a. a);
             rest = λ j l. ap (λ (t : List ℕ). byte t j) ek ∙ cleared-rest track₀ j l;
             silent = λ n i c l m. ap (λ (t : List ℕ). slotNumber t i c) ek ∙ ap (signedOf 24) (cleared-slot track₀ i c l m) ∙ silence;
@@ -333,9 +319,11 @@ module _ (T N : ℕ) (h : Header) (f : Format) (bytes : ℕ → List ℕ) (sourc
           let p = g .paints k₀ a c m in
           record {
             heard = λ i j l t w.
-                let q = place-add T N (x .some) k₀ j (lowest j t) in
+                let q = place-add N k₀ j (lowest j t) in
+                let a = w .from in
+                let b = w .to in
                 let e : j * N + (i - (j - k₀) * N) ≡ k₀ * N + i = omega arith in
                 p .painted i j l t (omega arith, omega arith) ∙ ap (λ (y : ℕ). source y c) e;
-            other = λ i l n. p .blank i l (λ j t w. n j t (let q = place-add T N (x .some) k₀ j (lowest j t) in (omega arith, omega arith)));
+            other = λ i l n. p .blank i l (λ j t w. let q = place-add N k₀ j (lowest j t) in n j t (holds-from T N (x .some) (k₀ * N + i) j (omega arith) (omega arith)));
           };
     }

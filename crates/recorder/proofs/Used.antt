@@ -19,7 +19,8 @@ use Rattle.take.specs.Tally.{cleared}
 use Rattle.cutter.specs.Cut.{cutAnswer, cutOf, cutPacket}
 use Rattle.recorder.specs.Box.{Event, opened, after}
 use Rattle.recorder.specs.Sender.{acceptedIn, Recorded}
-use Rattle.recorder.specs.Example.{hall4, header, sent, packets}
+use Rattle.recorder.specs.Bench.{hall4}
+use Rattle.recorder.specs.Example.{header, sent, packets}
 use Rattle.recorder.proofs.Demand.{recorded}
 
 -- bytes, tested one by one

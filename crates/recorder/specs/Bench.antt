@@ -55,7 +55,7 @@ abbrev minus : ℕ → ℤ
 minus n = negℤ (pos n)
 
 -- packet A's name and packet
-abbrev hall4 : List ℕ
+abbrev pub hall4 : List ℕ
 hall4 = (0x48 ∷ 0x61 ∷ 0x6C ∷ 0x6C ∷ 0x34 ∷ []) ++ replicate 11 0
 
 abbrev packetA : List ℕ

@@ -1,15 +1,13 @@
 -- A small sender and its histories, for examples that compute.
 use Prim.Native.Nat.{ℕ, suc, _+_, _*_}
-use mathlib.Core.List.{List, [], _∷_, _++_}
+use mathlib.Core.List.{List, [], _∷_}
 use lib.ListN.{replicate}
 use Rattle.lists.specs.Lists.{byte, upTo}
 use Rattle.wire.specs.declared.header.Header.{Header}
 use Rattle.take.specs.Tally.{cleared}
 use Rattle.cutter.specs.Cut.{cutPacket}
 use Rattle.recorder.specs.Box.{Event, opened, after}
-
-abbrev pub hall4 : List ℕ
-hall4 = (0x48 ∷ 0x61 ∷ 0x6C ∷ 0x6C ∷ 0x34 ∷ []) ++ replicate 11 0
+use Rattle.recorder.specs.Bench.{hall4}
 
 -- one channel of 16 bits, two frames a packet, and a counter that wraps after the first
 abbrev pub header : Header

@@ -1,4 +1,4 @@
-pub mod Heard
+pub mod Answered
 pub mod Took
 pub mod Shows
 pub mod Box

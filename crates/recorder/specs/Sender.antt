@@ -18,6 +18,7 @@ use Rattle.wire.specs.Names.{nameOf}
 use Rattle.wire.specs.Header.{fieldOf}
 use Rattle.wire.specs.Read.{readOf}
 use Rattle.track.specs.Records.{recordsHeld, slotNumber}
+use Rattle.cutter.specs.Schedule.{Schedule}
 use Rattle.cutter.specs.Cut.{cutSchedule, cutPacket}
 use Rattle.recorder.specs.Took.{Took, tookAfter}
 use Rattle.recorder.specs.Shows.{Shows}
@@ -32,19 +33,27 @@ carriedKnown Unknown n = pos 0
 abbrev pub sentNumber : Header → List ℕ → ℕ → ℕ → ℤ
 sentNumber h track x c = choose (ltb c (h .channels)) (carriedKnown (indexed (h .format)) (slotNumber track x c)) (pos 0)
 
+-- the event is packet k of a schedule's packets, from an address: said of its bytes
+abbrev pub HeardAs : Schedule → (ℕ → List ℕ) → ℕ → Event → ℕ → Type 0
+HeardAs s packet address e k = (k < s .packets) × (e .datagram ≡ packet k) × (e .address ≡ address)
+
+-- the event is audio of a name and an address
+abbrev pub AudioOf : List ℕ → ℕ → Event → Type 0
+AudioOf name address e = (readOf (e .datagram) .answer ≡ Accepted) × (nameOf (fieldOf (e .datagram)) ≡ nameOf name) × (e .address ≡ address)
+
 -- which packets the events of a history are
 abbrev pub heardOf : (Event → ℕ → Type 0) → List Event → List (ℕ → Type 0)
 heardOf Heard [] = []
 heardOf Heard (e ∷ past) = Heard e ∷ heardOf Heard past
 
 module _ (h : Header) (track : List ℕ) (address : ℕ) where
-  -- the event is packet k, from the sender's address: said of its bytes
+  -- the event is packet k of the cut, from the sender's address
   abbrev pub Heard : Event → ℕ → Type 0
-  Heard e k = (k < cutSchedule h track .packets) × (e .datagram ≡ cutPacket h track k) × (e .address ≡ address)
+  Heard e k = HeardAs (cutSchedule h track) (cutPacket h track) address e k
 
   -- the event is audio of the sender's name and address
   abbrev pub Audio : Event → Type 0
-  Audio e = (readOf (e .datagram) .answer ≡ Accepted) × (nameOf (fieldOf (e .datagram)) ≡ nameOf (h .name)) × (e .address ≡ address)
+  Audio e = AudioOf (h .name) address e
 
   -- one of the sender's packets, or another: refused by reading alone, or of another name or address
   abbrev pub Comes : Event → Type 0

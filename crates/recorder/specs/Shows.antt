@@ -1,12 +1,8 @@
 -- What a track shows of the packets accepted (demand 3): the sender's frames where the packet holding them was accepted, silence elsewhere.
-use Prim.Native.Nat.{ℕ, _+_, _≤_, _<_}
+use Prim.Native.Nat.{ℕ, _+_, _<_}
 use mathlib.Core.Path.{_≡_}
-use Rattle.cutter.specs.Schedule.{Schedule}
+use Rattle.cutter.specs.Schedule.{Schedule, Holds}
 use Rattle.recorder.specs.Took.{Took}
-
--- packet j holds frame x
-abbrev pub Holds : Schedule → ℕ → ℕ → Type 0
-Holds s j x = (s .first j ≤ x) × (x < s .first j + s .count j)
 
 module _ {Frame : Type 0} (silence : Frame) (source : ℕ → Frame) (s : Schedule) (R : ℕ) (A : Took) where
   -- packet k was accepted first: record i is the sender's frame first k + i, wherever the packet holding that frame was accepted

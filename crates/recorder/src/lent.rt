@@ -1,13 +1,13 @@
 // Following with the tally lent.
 ghost use mathlib.Core.Path.{_≡_};
 ghost use Rattle.take.specs.Follow.{followOf, followedTrack};
-ghost use Rattle.recorder.specs.Heard.{heardOf};
+ghost use Rattle.recorder.specs.Answered.{answeredOf};
 use answers::Answer;
 use take::Take;
 use take::Tally;
 
 // What following gives where the tally is lent.
-pub struct Heard {
+pub struct Answered {
     pub answer: Answer,
     pub place: usize,
     pub frames: u16,
@@ -18,7 +18,7 @@ pub struct Heard {
 // The tally apart from the rest: the borrow checker covers no lent struct, so `follow` only moves these two.
 struct Apart {
     tally: Tally,
-    heard: Heard,
+    answered: Answered,
 }
 
 fn followed_apart(
@@ -28,7 +28,7 @@ fn followed_apart(
     datagram: &[u8],
     track: &mut [u8],
 ) -> Apart
-    ensures { λ r. ⌜ r .heard ≡ heardOf (followOf take tally address (now (datagram .entry)) (now (track .entry))) ⌝ }
+    ensures { λ r. ⌜ r .answered ≡ answeredOf (followOf take tally address (now (datagram .entry)) (now (track .entry))) ⌝ }
     ensures { λ r. ⌜ r .tally ≡ followOf take tally address (now (datagram .entry)) (now (track .entry)) .tally ⌝ }
     ensures { λ _. ⌜ now (track .exit) ≡ followedTrack take address (now (datagram .entry)) (now (track .entry)) ⌝ }
 {
@@ -36,7 +36,7 @@ fn followed_apart(
     let answer = r.answer;
     let followed = r.take;
     let raised = r.tally;
-    let heard = Heard {
+    let answered = Answered {
         answer,
         place: r.place,
         frames: r.frames,
@@ -45,7 +45,7 @@ fn followed_apart(
     };
     Apart {
         tally: raised,
-        heard,
+        answered,
     }
 }
 
@@ -56,12 +56,12 @@ pub fn follow(
     address: u32,
     datagram: &[u8],
     track: &mut [u8],
-) -> Heard
-    ensures { λ r. ⌜ r ≡ heardOf (followOf take (now (tally .entry)) address (now (datagram .entry)) (now (track .entry))) ⌝ }
+) -> Answered
+    ensures { λ r. ⌜ r ≡ answeredOf (followOf take (now (tally .entry)) address (now (datagram .entry)) (now (track .entry))) ⌝ }
     ensures { λ _. ⌜ now (tally .exit) ≡ followOf take (now (tally .entry)) address (now (datagram .entry)) (now (track .entry)) .tally ⌝ }
     ensures { λ _. ⌜ now (track .exit) ≡ followedTrack take address (now (datagram .entry)) (now (track .entry)) ⌝ }
 {
     let r = followed_apart(take, *tally, address, datagram, track);
     *tally = r.tally;
-    r.heard
+    r.answered
 }

@@ -94,13 +94,6 @@ sample-has Signed16 u l = mag-has Signed16 refl (signedOf 16 u) (signed-mag 16 (
 sample-has Signed24 u l = mag-has Signed24 refl (signedOf 24 u) (signed-mag 24 (lit≤ tt) u l)
 sample-has Signed32 u l = mag-has Signed32 refl (signedOf 32 u) (signed-mag 32 (lit≤ tt) u l)
 
--- the bits of the number that bits spell are those bits
-pub sample-bits : (f : Format) (u : ℕ) → u < 2 ^ widthOf f → sampleBits f (sampleOf f u) ≡ u
-sample-bits Unsigned8 u l = refl
-sample-bits Signed16 u l = signed-bits 16 (lit≤ tt) u l
-sample-bits Signed24 u l = signed-bits 24 (lit≤ tt) u l
-sample-bits Signed32 u l = signed-bits 32 (lit≤ tt) u l
-
 -- a number's bits spell that number
 pub bits-sample : (f : Format) (n : ℤ) → has f n ≡ true → sampleOf f (sampleBits f n) ≡ n
 bits-sample Unsigned8 n h = byte-is n h

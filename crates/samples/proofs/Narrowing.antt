@@ -71,9 +71,6 @@ module _ (k v : ℕ) (hk : 1 ≤ k) (hv : 2 ≤ v) where
     pub whole-is : shrZ (subℕ u (2 ^ (v + k - 1))) (2 ^ k) ≡ subℕ (u / 2 ^ k) (2 ^ (v - 1))
     whole-is = rw wide (shifted u (2 ^ (v - 1)) (2 ^ k) (pow-pos k))
 
-    pub odd-is : natAbs (shrZ (subℕ u (2 ^ (v + k - 1))) (2 ^ k)) % 2 ≡ u / 2 ^ k % 2
-    odd-is = rw whole-is (parity (u / 2 ^ k) (2 ^ (v - 1)) even)
-
     pub rise-is : shrZ (subℕ (u + (2 ^ (k - 1) - 1) + u / 2 ^ k % 2) (2 ^ (v + k - 1))) (2 ^ k) ≡ subℕ rise (2 ^ (v - 1))
     rise-is = rw wide (shifted (u + (2 ^ (k - 1) - 1) + u / 2 ^ k % 2) (2 ^ (v - 1)) (2 ^ k) (pow-pos k))
 

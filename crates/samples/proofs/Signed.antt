@@ -6,7 +6,7 @@ use native.Mathlib.Decide.{decLe}
 use native.Mathlib.Nat.{mul-le-mul-right, suc-mul, mul-sub, mul-comm, not-suc-le-zero, div-add-mod', mod-lt}
 use lib.Arith.{digits-div}
 use lib.Dec.{ltb}
-use lib.IntN.{ℤ, pos, negsuc, negℤ, subℕ, natAbs, _*ℤ_}
+use lib.IntN.{pos, negsuc, negℤ, subℕ, natAbs, _*ℤ_}
 use lib.Signed.{shrZ, ltZ}
 use borrow.Author.Tests.{lt-ltb, le-ltb}
 use Rattle.lists.proofs.Tables.{less-alike}

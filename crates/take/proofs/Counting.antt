@@ -12,7 +12,8 @@ use Rattle.lists.specs.Tables.{choose}
 use Rattle.lists.proofs.Tables.{by-test}
 use Rattle.answers.specs.declared.Answer.{Answer}
 use Rattle.answers.specs.declared.Answer.the-variants.{Accepted, Short, Long, Foreign, Name, OtherStream, SubProtocol, Codec, Reserved, Rate, DataType, Length, Channels, Shape, Late, Beyond, State}
-use Rattle.answers.proofs.Numbers.{told}
+use Rattle.answers.specs.Numbers.{numberOf}
+use Rattle.answers.proofs.Numbers.{told, number-told}
 use Rattle.take.specs.declared.Tally.{Tally}
 use Rattle.take.specs.Tally.{countOf, cleared, oneMore, raisedOf}
 use Rattle.take.specs.Follow.{followOf}
@@ -108,29 +109,29 @@ module _ (a : Answer) where
 
   -- from any tally whose counts are counts
   after : (calls : List Call) (t : Tally) → length (t .counts) ≡ 17 → getD (t .counts) (countOf a) 0 ≤ top
-      → getD (tallyAfter t calls .counts) (countOf a) 0 ≡ min top (getD (t .counts) (countOf a) 0 + answeredSo a calls)
+      → getD (tallyAfter t calls .counts) (countOf a) 0 ≡ min top (getD (t .counts) (countOf a) 0 + answeredSo (numberOf a) calls)
   after [] t l h = omega arith
   after (c ∷ calls) t l h =
       ap (λ (x : Tally). getD (tallyAfter x calls .counts) (countOf a) 0) (tally-is c t)
       ∙ after calls (raisedOf t (answerTo c)) (raised-length t (answerTo c) l) (raised-le t (answerTo c) l h)
       ∙ by-test
-      (λ b. eqb (countOf (answerTo c)) (countOf a) ≡ b
-      → min top (getD (raisedOf t (answerTo c) .counts) (countOf a) 0 + answeredSo a calls)
-      ≡ min top (getD (t .counts) (countOf a) 0 + choose b (suc (answeredSo a calls)) (answeredSo a calls)))
-      (eqb (countOf (answerTo c)) (countOf a))
-      (λ e p. let q : answerTo c ≡ a = count-told _ _ (eqb-true _ _ p) in
-      rw (q, raised-one t a l) (one-more-top (getD (t .counts) (countOf a) 0) (answeredSo a calls) h))
-      (λ e p. rw (raised-no-other t (answerTo c) l a (λ q. eqb-false _ _ p (ap countOf (sym q)))))
+      (λ b. eqb (numberOf (answerTo c)) (numberOf a) ≡ b
+      → min top (getD (raisedOf t (answerTo c) .counts) (countOf a) 0 + answeredSo (numberOf a) calls)
+      ≡ min top (getD (t .counts) (countOf a) 0 + choose b (suc (answeredSo (numberOf a) calls)) (answeredSo (numberOf a) calls)))
+      (eqb (numberOf (answerTo c)) (numberOf a))
+      (λ e p. let q : answerTo c ≡ a = number-told _ _ (eqb-true _ _ p) in
+      rw (q, raised-one t a l) (one-more-top (getD (t .counts) (countOf a) 0) (answeredSo (numberOf a) calls) h))
+      (λ e p. rw (raised-no-other t (answerTo c) l a (λ q. eqb-false _ _ p (ap numberOf (sym q)))))
       refl
 
   -- THE TALLY: from a cleared one, each count is the lesser of its top and the number of calls so answered
-  pub tally-counts : (calls : List Call) → getD (tallyAfter cleared calls .counts) (countOf a) 0 ≡ min top (answeredSo a calls)
+  pub tally-counts : (calls : List Call) → getD (tallyAfter cleared calls .counts) (countOf a) 0 ≡ min top (answeredSo (numberOf a) calls)
   tally-counts calls =
       let z : getD (cleared .counts) (countOf a) 0 ≡ 0 = getD-replicate 17 (countOf a) 0 0 (count-lt a) in
-      after calls cleared refl (omega arith) ∙ ap (λ (n : ℕ). min top (n + answeredSo a calls)) z ∙ omega arith
+      after calls cleared refl (omega arith) ∙ ap (λ (n : ℕ). min top (n + answeredSo (numberOf a) calls)) z ∙ omega arith
 
   -- document 01's sentence: below the top, the count is that number
-  pub tally-below : (calls : List Call) → answeredSo a calls ≤ top → getD (tallyAfter cleared calls .counts) (countOf a) 0 ≡ answeredSo a calls
+  pub tally-below : (calls : List Call) → answeredSo (numberOf a) calls ≤ top → getD (tallyAfter cleared calls .counts) (countOf a) 0 ≡ answeredSo (numberOf a) calls
   tally-below calls h = tally-counts calls ∙ omega arith
 
 -- ---- the counts add up to the calls made

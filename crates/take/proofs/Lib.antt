@@ -4,5 +4,4 @@ pub mod Counting
 pub mod Exactly
 pub mod Following
 pub mod Wraps
-pub mod Examples
 pub mod Records

@@ -4,11 +4,11 @@ use mathlib.Core.List.{List, [], _∷_}
 use lib.Dec.{eqb}
 use Rattle.lists.specs.Tables.{choose}
 use Rattle.answers.specs.declared.Answer.{Answer}
+use Rattle.answers.specs.Numbers.{numberOf}
 use Rattle.track.specs.Records.{recordsHeld}
 use Rattle.take.specs.declared.Take.{Take}
 use Rattle.take.specs.declared.Tally.{Tally}
 use Rattle.take.specs.Follow.{answerOf, followOf}
-use Rattle.take.specs.Tally.{countOf}
 
 -- what a following call is given, the tally apart: any take, address, datagram and track
 pub record Call : Type 0 where
@@ -26,10 +26,10 @@ abbrev pub tallyAfter : Tally → List Call → Tally
 tallyAfter tally [] = tally
 tallyAfter tally (c ∷ calls) = tallyAfter (followOf (c .take) tally (c .address) (c .datagram) (c .track) .tally) calls
 
--- how many calls of a history were answered a
-abbrev pub answeredSo : Answer → List Call → ℕ
-answeredSo a [] = 0
-answeredSo a (c ∷ calls) = choose (eqb (countOf (answerTo c)) (countOf a)) (suc (answeredSo a calls)) (answeredSo a calls)
+-- how many calls of a history were answered the paper's number n (document 01: "The house tally has one count for each answer 0 to 16")
+abbrev pub answeredSo : ℕ → List Call → ℕ
+answeredSo n [] = 0
+answeredSo n (c ∷ calls) = choose (eqb (numberOf (answerTo c)) n) (suc (answeredSo n calls)) (answeredSo n calls)
 
 -- the counts added up
 abbrev pub sum : List ℕ → ℕ

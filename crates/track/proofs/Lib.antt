@@ -3,4 +3,3 @@ pub mod Spelling
 pub mod Laying
 pub mod Laws
 pub mod Copying
-pub mod Examples

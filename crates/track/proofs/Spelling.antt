@@ -1,12 +1,12 @@
 -- A sample's bytes spell its bits, over the type.
 use mathlib.Core.Path.{_≡_, refl, sym, _∙_}
 use mathlib.Core.List.{List, [], _∷_, _++_}
-use Prim.Native.Nat.{ℕ, zero, suc, _+_, _^_, _≤_, _<_}
+use Prim.Native.Nat.{ℕ, suc, _+_, _^_, _≤_, _<_}
 use native.Mathlib.Nat.{add-zero, add-assoc}
 use native.Mathlib.Numerals.{add-one}
 use native.Mathlib.Omega.{arith}
 use lib.Dec.{lit<}
-use lib.ListN.{length, take, drop, List·getD-append}
+use lib.ListN.{length, take, drop}
 use lib.Seq.{drop-cons, getD-append-add}
 use Rattle.lists.specs.Lists.{byte}
 use Rattle.samples.specs.declared.Format.{Format}
@@ -36,10 +36,6 @@ same-sample Signed16 d e a b h = let g = rw (add-zero a, add-zero b) at (h 0 (li
 same-sample Signed24 d e a b h = let g = rw (add-zero a, add-zero b) at (h 0 (lit< tt)) in rw (g, h 1 (lit< tt), h 2 (lit< tt))
 same-sample Signed32 d e a b h = let g = rw (add-zero a, add-zero b) at (h 0 (lit< tt)) in rw (g, h 1 (lit< tt), h 2 (lit< tt), h 3 (lit< tt))
 
-pub sample-there : (f : Format) (a b : List ℕ) (u : ℕ) → u < 2 ^ widthOf f → sampleAt f (a ++ (sampleBytes f u ++ b)) (length a) ≡ u
-sample-there f a b u l = spelled f _ (length a) u l (λ j h.
-    getD-append-add a (sampleBytes f u ++ b) j 0 ∙ List·getD-append (sampleBytes f u) b 0 j (rw (bytes-length f u) h))
-
 -- data after other data
 pub sample-after : (f : Format) (p d : List ℕ) (a : ℕ) → sampleAt f (p ++ d) (length p + a) ≡ sampleAt f d a
 sample-after f p d a = same-sample f (p ++ d) d (length p + a) a (λ j h. rw (add-assoc (length p) a j) (getD-append-add p d (a + j) 0))
@@ -51,21 +47,6 @@ sample-below Unsigned8 d a h = h a
 sample-below Signed16 d a h = omega (arith, h a, h (a + 1))
 sample-below Signed24 d a h = omega (arith, h a, h (a + 1), h (a + 2))
 sample-below Signed32 d a h = omega (arith, h a, h (a + 1), h (a + 2), h (a + 3))
-
-abbrev AllBelow : List ℕ → Type 0
-AllBelow [] = Unit {0}
-AllBelow (x ∷ xs) = (x < 256) × AllBelow xs
-
-all-below : (xs : List ℕ) → AllBelow xs → (i : ℕ) → byte xs i < 256
-all-below [] h i = lit< tt
-all-below (x ∷ xs) h zero = h .0
-all-below (x ∷ xs) h (suc i) = all-below xs (h .1) i
-
-pub bytes-below : (f : Format) (u i : ℕ) → u < 2 ^ widthOf f → byte (sampleBytes f u) i < 256
-bytes-below Unsigned8 u i l = all-below (sampleBytes Unsigned8 u) (l, tt) i
-bytes-below Signed16 u i l = all-below (sampleBytes Signed16 u) (omega arith, (omega arith, tt)) i
-bytes-below Signed24 u i l = all-below (sampleBytes Signed24 u) (omega arith, (omega arith, (omega arith, tt))) i
-bytes-below Signed32 u i l = all-below (sampleBytes Signed32 u) (omega arith, (omega arith, (omega arith, (omega arith, tt)))) i
 
 -- ---- the bytes that a sample is read from
 

@@ -18,9 +18,6 @@ pub four-joined : (b : ℕ) → joinedFour (rateBits b) (subBits b) ≡ b
 four-joined b = omega arith
 
 module _ (rate sub : ℕ) (r : rate < 32) (s : sub < 8) where
-  pub four-fits : joinedFour rate sub < 256
-  four-fits = omega arith
-
   pub four-split : (rateBits (joinedFour rate sub) ≡ rate) × (subBits (joinedFour rate sub) ≡ sub)
   four-split = (omega arith, omega arith)
 
@@ -30,9 +27,6 @@ pub seven-joined : (b : ℕ) → joinedSeven (formatBits b) (reservedBit b) (cod
 seven-joined b = omega arith
 
 module _ (format reserved codec : ℕ) (f : format < 8) (r : reserved < 2) (c : codec < 16) where
-  pub seven-fits : joinedSeven format reserved codec < 256
-  seven-fits = omega arith
-
   pub seven-split : (formatBits (joinedSeven format reserved codec) ≡ format) × (reservedBit (joinedSeven format reserved codec) ≡ reserved)
       × (codecBits (joinedSeven format reserved codec) ≡ codec)
   seven-split = (omega arith, omega arith, omega arith)

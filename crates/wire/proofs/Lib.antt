@@ -5,4 +5,3 @@ pub mod Rows
 pub mod Reading
 pub mod Writing
 pub mod RoundTrip
-pub mod Examples

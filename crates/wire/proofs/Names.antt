@@ -6,10 +6,10 @@ use mathlib.Core.List.{List, [], _∷_, _++_}
 use Prim.Native.Nat.{ℕ, zero, suc, _+_, _-_, _≤_, _<_, zero-le, suc-le-suc}
 use native.Mathlib.Nat.{suc-ne-zero, le-of-suc-le-suc, not-suc-le-zero, min-le-right, le-of-eq}
 use native.Mathlib.Omega.{arith}
-use lib.Dec.{ltb, lit<, eqb, eqb·suc-zero}
-use lib.ListN.{length, getD, take, drop, replicate, length-append, length-take, length-replicate, take-append-drop, List·getD-append, List·getD-eq-default}
-use lib.Seq.{drop-nil, getD-take, getD-append-add}
-use borrow.Author.Tests.{le-ltb, ltb-true, ltb-false, eq-eqb, ne-eqb, eqb-true, eqb-false}
+use lib.Dec.{ltb, eqb, eqb·suc-zero}
+use lib.ListN.{length, getD, take, drop, replicate, length-append, length-take, length-replicate, take-append-drop, List·getD-eq-default}
+use lib.Seq.{drop-nil}
+use borrow.Author.Tests.{le-ltb, ltb-false, eq-eqb, ne-eqb, eqb-true, eqb-false}
 use Rattle.bytes.specs.Bytes.{indexOf, indexAfter}
 use Rattle.lists.specs.Tables.{choose}
 use Rattle.lists.proofs.Tables.{by-test, true-false}
@@ -179,29 +179,6 @@ kept-length n h = rw (kept-is n) (simp (length-append, length-replicate) (omega 
 pub kept-good-name : (n : List ℕ) → length n ≤ 16 → GoodName n → GoodName (keptName n)
 kept-good-name n h g = good-exactly (keptName n) (le-of-eq (kept-length n h)) .0 (kept-good n ∙ good-exactly n h .1 g)
 
-name-at : (n : List ℕ) (i : ℕ) → i < length (nameOf n) → getD (nameOf n) i 0 ≡ getD n i 0
-unfolding nameOf
-name-at n i h = getD-take (indexOf 0 n) n i 0 (rw (name-length n) at h)
-
-zeros-at : (m i : ℕ) → getD {A = ℕ} (replicate m 0) i 0 ≡ 0
-zeros-at zero i = List·getD-eq-default [] 0 {n = i} zero-le
-zeros-at (suc m) zero = refl
-zeros-at (suc m) (suc i) = zeros-at m i
-
-pub kept-bytes : (n : List ℕ) → ((i : ℕ) → getD n i 0 < 256) → (i : ℕ) → getD (keptName n) i 0 < 256
-kept-bytes n b i =
-    let s : List ℕ = nameOf n in
-    let z : List ℕ = replicate (16 - length s) 0 in
-    rw (kept-is n)
-    (by-test (λ t. getD (s ++ z) i 0 < 256) (ltb i (length s))
-    (λ t.
-    let h : i < length s = ltb-true _ _ t in
-    rw (List·getD-append s z 0 i h, name-at n i h) (b i))
-    (λ t.
-    let h : length s ≤ i = ltb-false _ _ t in
-    let e : length s + (i - length s) ≡ i = omega arith in
-    rw (← e, getD-append-add s z (i - length s) 0, zeros-at (16 - length s) (i - length s)) (lit< tt)))
-
 -- ---- the same name
 
 same-bytes : (xs ys : List ℕ) → sameBytes xs ys ≡ true → xs ≡ ys
@@ -222,10 +199,6 @@ module _ (m n : List ℕ) where
   pub same-exactly : sameName m n ≡ true ↔ nameOf m ≡ nameOf n
   unfolding sameName
   same-exactly = (same-bytes (nameOf m) (nameOf n), (λ e. rw e (bytes-same (nameOf n))))
-
-  pub same-kept-left : sameName (keptName m) n ≡ sameName m n
-  unfolding sameName
-  same-kept-left = rw (kept-name m)
 
   pub same-kept-right : sameName m (keptName n) ≡ sameName m n
   unfolding sameName

@@ -48,12 +48,12 @@ use Rattle.take.proofs.Take as K
 use Rattle.take.proofs.Take.Laws as K′
 use Rattle.take.proofs.Tally as T
 use Rattle.take.proofs.Tally.Laws as T′
-use Rattle.recorder.specs.Heard.{heardOf}
+use Rattle.recorder.specs.Answered.{answeredOf}
 use Rattle.recorder.specs.declared.lent.Apart.{Apart}
 use Rattle.recorder.proofs.lent.Apart as S
 use Rattle.recorder.proofs.lent.Apart.Laws as S′
-use Rattle.recorder.proofs.lent.Heard as E
-use Rattle.recorder.proofs.lent.Heard.Laws as E′
+use Rattle.recorder.proofs.lent.Answered as E
+use Rattle.recorder.proofs.lent.Answered.Laws as E′
 use Rattle.recorder.proofs.lent.followed_apart as callee
 use Rattle.recorder.proofs.lent.followed_apart.Symbol as callee-def
 use Rattle.recorder.proofs.lent.followed_apart.Symbol.{name as #callee}
@@ -134,22 +134,22 @@ module _ {M : Type 1} (𝓤 : URA M) (H : Heap 𝓤) (A : Atoms 𝓤) (W : Given
   tally-is : (r : Apart) (w : Val) → Is S.the-row r (w ∷ []) → Is T.the-row (r .tally) (LL.vals T.the-type T′.the-laws (r .tally))
   tally-is r w is = LL.owed S.the-type S′.the-laws r _ is .0
 
-  heard-is : (r : Apart) (w : Val) → Is S.the-row r (w ∷ []) → Is E.the-row (r .heard) (LL.vals E.the-type E′.the-laws (r .heard))
-  heard-is r w is = LL.owed S.the-type S′.the-laws r _ is .1 .0
+  answered-is : (r : Apart) (w : Val) → Is S.the-row r (w ∷ []) → Is E.the-row (r .answered) (LL.vals E.the-type E′.the-laws (r .answered))
+  answered-is r w is = LL.owed S.the-type S′.the-laws r _ is .1 .0
 
   -- the three clauses at exit, each a fact
   shown : {P : SProp 𝓤} {φ₁ φ₂ φ₃ : Type 0} → φ₁ → φ₂ → φ₃ → ent 𝓤 P (sep 𝓤 P (sep 𝓤 (fact 𝓤 φ₁) (sep 𝓤 (fact 𝓤 φ₂) (fact 𝓤 φ₃))))
   shown {P} {φ₁} {φ₂} {φ₃} e₁ e₂ e₃ =
       qed W (raw P ∷ []) ∵ frame ! $ use0 W (raw (fact 𝓤 φ₃)) (factI 𝓤 φ₃ (emp 𝓤) e₃) $ use0 W (raw (fact 𝓤 φ₂)) (factI 𝓤 φ₂ (emp 𝓤) e₂) $ use0 W (raw (fact 𝓤 φ₁)) (factI 𝓤 φ₁ (emp 𝓤) e₁) $ done !
 
-  exits : (r : Apart) (zs : List ℕ) → Is E.the-row (r .heard) (LL.vals E.the-type E′.the-laws (r .heard)) → length zs ≡ length ys → r .heard ≡ heardOf given → r .tally ≡ given .tally → zs ≡ zs′
-      → ent 𝓤 (⋆ 𝓤 H A (‵ (fobs γ (T.the-row .coded .code (r .tally))) ∷ ‵ (fbor κ (Body (mem T.the-row) b o γ)) ∷ ‵ (flft κ q) ∷ Toks ∷ ‵ (finally u8 γ₂ zs) ∷ ‵ Datagram ∷ [])) (Post (LL.val E.the-type E′.the-laws (r .heard)))
+  exits : (r : Apart) (zs : List ℕ) → Is E.the-row (r .answered) (LL.vals E.the-type E′.the-laws (r .answered)) → length zs ≡ length ys → r .answered ≡ answeredOf given → r .tally ≡ given .tally → zs ≡ zs′
+      → ent 𝓤 (⋆ 𝓤 H A (‵ (fobs γ (T.the-row .coded .code (r .tally))) ∷ ‵ (fbor κ (Body (mem T.the-row) b o γ)) ∷ ‵ (flft κ q) ∷ Toks ∷ ‵ (finally u8 γ₂ zs) ∷ ‵ Datagram ∷ [])) (Post (LL.val E.the-type E′.the-laws (r .answered)))
   exits r zs good l e₁ e₂ e₃ =
       qed W (‵ (fobs γ (T.the-row .coded .code (r .tally))) ∷ ‵ (fbor κ (Body (mem T.the-row) b o γ)) ∷ ‵ (flft κ q) ∷ Toks ∷ ‵ (finally u8 γ₂ zs) ∷ ‵ Datagram ∷ []) ∵
-      suffices ! _ (ends-at 𝓤 H A follow.ended stayed (follow.clauses 𝓤 H A at-mem run) W (((κ, (κ₁, (κ₂, tt))), (q, (q₁, (q₂, tt))), tt, x, at), tt) (LL.val E.the-type E′.the-laws (r .heard)) (r .heard) (tt, (r .tally, (tt, (tt, (zs, tt))))) (tt, (tt, (tt, (tt, (l, tt)))))) $
+      suffices ! _ (ends-at 𝓤 H A follow.ended stayed (follow.clauses 𝓤 H A at-mem run) W (((κ, (κ₁, (κ₂, tt))), (q, (q₁, (q₂, tt))), tt, x, at), tt) (LL.val E.the-type E′.the-laws (r .answered)) (r .answered) (tt, (r .tally, (tt, (tt, (zs, tt))))) (tt, (tt, (tt, (tt, (l, tt)))))) $
       suffices ! _ (shown e₁ e₂ e₃) $ move ! (2 ∷ 3 ∷ []) $ join ! $ frame ! $
       feqI ! (List Val) (vptr b o ∷ []) (vptr b o ∷ []) refl $ fjoin3 ! $ nothing ! $ move ! (2 ∷ 0 ∷ []) $ fjoin ! $ move ! (2 ∷ 0 ∷ []) $ fjoin ! $ owned ! u32 (Is u32) (uint-makes 𝓤 H A W w32) n _ (refl, fits) $ fjoin ! $ move ! (1 ∷ 0 ∷ []) $ fjoin ! $
-      owned ! K.the-row (Is K.the-row) (LL.makes K.the-type K′.the-plain 𝓤 H A) t _ gt $ fjoin ! $ owned ! E.the-row (Is E.the-row) (LL.makes E.the-type E′.the-plain 𝓤 H A) (r .heard) _ good $ move ! (1 ∷ 0 ∷ []) $ done !
+      owned ! K.the-row (Is K.the-row) (LL.makes K.the-type K′.the-plain 𝓤 H A) t _ gt $ fjoin ! $ owned ! E.the-row (Is E.the-row) (LL.makes E.the-type E′.the-plain 𝓤 H A) (r .answered) _ good $ move ! (1 ∷ 0 ∷ []) $ done !
 
   module _ (C : Calls 𝓤 H) (Λ : Loops 𝓤 H) (fm : FmC 𝓤 H (W .laws) C) (known : Triple 𝓤 (C #callee) (Called 𝓤 H A at-mem run)) where
     walk : ent 𝓤 (onEntry 𝓤 H A follow.signature (κ, (κ₁, (κ₂, tt))) (q, (q₁, (q₂, tt))) x at) (WpFn 𝓤 H C Λ code.function (took ∷ vptr b o ∷ vint w32 n ∷ s₁ ∷ s₂ ∷ []) Post)
@@ -172,20 +172,20 @@ module _ {M : Type 1} (𝓤 : URA M) (H : Heap 𝓤) (A : Atoms 𝓤) (W : Given
         -- [what the callee asks; …; what the datagram owns; the tally's cell; the open borrow; obs; auth; _9; …; .. _1; …; room for _0; …]
         calls-at ! fm (Called 𝓤 H A at-mem run) known to (and-then ! (load ! (from ! (stop !)) (look ! 23 refl)) (and-then ! (load ! (from ! (stop !)) (look ! 11 refl)) (and-then ! (load ! (from ! (stop !)) (look ! 19 refl)) (and-then ! (load ! (from ! (stop !)) (look ! 17 refl)) (and-then ! (load ! (from ! (stop !)) (look ! 7 refl)) (no-more !)))))) (λ w.
         use1 W (later (some (λ (r : Apart). (Toks ⊛ ‵ (S.the-row .own r (w ∷ []))) ⊛ raw (ensured 𝓤 H A callee.ended (callee.clauses 𝓤 H A at-mem run) (κ₁, (κ₂, tt)) args tt r)))) (id⊢ 𝓤 _) $ await ! tt $ pick ! (λ r.
-        split ! $ move ! (1 ∷ []) $ use1 W (some (λ (zs : Unit {0} × (Unit {0} × (Unit {0} × (Unit {0} × (List ℕ × Unit {0}))))). ‵ (lasts callee.ended (κ₁, (κ₂, tt)) args zs) ⊛ raw (fact 𝓤 (r .heard ≡ heardOf given)) ⊛ raw (fact 𝓤 (r .tally ≡ given .tally)) ⊛ raw (fact 𝓤 (zs .1 .1 .1 .1 .0 ≡ zs′)))) (id⊢ 𝓤 _) $ pick ! (λ zs.
-        split ! $ move ! (1 ∷ []) $ split3 ! $ heard ! (r .heard ≡ heardOf given) (λ e₁. heard ! (r .tally ≡ given .tally) (λ e₂. heard ! (zs .1 .1 .1 .1 .0 ≡ zs′) (λ e₃.
+        split ! $ move ! (1 ∷ []) $ use1 W (some (λ (zs : Unit {0} × (Unit {0} × (Unit {0} × (Unit {0} × (List ℕ × Unit {0}))))). ‵ (lasts callee.ended (κ₁, (κ₂, tt)) args zs) ⊛ raw (fact 𝓤 (r .answered ≡ answeredOf given)) ⊛ raw (fact 𝓤 (r .tally ≡ given .tally)) ⊛ raw (fact 𝓤 (zs .1 .1 .1 .1 .0 ≡ zs′)))) (id⊢ 𝓤 _) $ pick ! (λ zs.
+        split ! $ move ! (1 ∷ []) $ split3 ! $ heard ! (r .answered ≡ answeredOf given) (λ e₁. heard ! (r .tally ≡ given .tally) (λ e₂. heard ! (zs .1 .1 .1 .1 .0 ≡ zs′) (λ e₃.
         fsplit ! $ drop ! $ fsplit ! $ drop ! $ fsplit ! $ drop ! $ fsplit ! $ drop ! $ fsplit ! $ fsplit ! $ move ! (1 ∷ []) $ feqL ! (λ m. move ! (2 ∷ []) $ split ! $ move ! (1 ∷ []) $
         facts ! S.the-row (Is S.the-row) (shows 𝓤 H A S.the-row) r (w ∷ []) (λ is.
         -- [the tokens; the track's last list; …; …; what the datagram owns; the tally's cell; the open borrow; obs; auth; _9; …; .. _1; …; room for _0; …]
         land ! (from ! (stop !)) (init ! 15 refl (LL.lawful S.the-type S′.the-laws 𝓤 H A W .typed r _ is .0)) $
         rewrite ! 15 (λ (u : Val). ‵ (fat fullShare S′.mir l₆ 0 u)) (ap only (LL.tells S.the-type S′.the-laws r _ is)) refl $
         assigns ! (of-opd ! (load ! (from ! (fld ! refl (stop !))) (look-in ! 15 (sub ! 0 refl (whole !))))) (from ! (hop ! (look ! 23 refl) (stop !))) (store-raw ! 5 refl (LL.lawful T.the-type T′.the-laws 𝓤 H A W .typed (r .tally) _ (tally-is r w is) .0)) $
-        assigns ! (of-opd ! (load ! (from ! (fld ! refl (stop !))) (look-in ! 15 (sub ! 1 refl (whole !))))) (from ! (stop !)) (init ! 27 refl (LL.lawful E.the-type E′.the-laws 𝓤 H A W .typed (r .heard) _ (heard-is r w is) .0)) $
+        assigns ! (of-opd ! (load ! (from ! (fld ! refl (stop !))) (look-in ! 15 (sub ! 1 refl (whole !))))) (from ! (stop !)) (init ! 27 refl (LL.lawful E.the-type E′.the-laws 𝓤 H A W .typed (r .answered) _ (answered-is r w is) .0)) $
         owned ! T.the-row (Is T.the-row) (LL.makes T.the-type T′.the-plain 𝓤 H A) (r .tally) _ (tally-is r w is) $ move ! (6 ∷ 0 ∷ 7 ∷ 8 ∷ 9 ∷ []) $ closes ! tt T.the-row (r .tally) (LL.vals T.the-type T′.the-laws (r .tally)) b o $
         -- [obs; the borrow; the token; the tokens; the track's last list; …; …; what the datagram owns; _9; …]
         returns ! (look ! 26 refl) $ forget ! 8 refl $ forget ! 10 refl $ forget ! 12 refl $ forget ! 14 refl $ forget ! 16 refl $ forget ! 18 refl $ forget ! 20 refl $ forget ! 22 refl $ forget ! 24 refl $ forget ! 26 refl $
         move ! (26 ∷ 27 ∷ []) $ free1 ! $ move ! (24 ∷ 25 ∷ []) $ free1 ! $ move ! (22 ∷ 23 ∷ []) $ free1 ! $ move ! (20 ∷ 21 ∷ []) $ free1 ! $ move ! (18 ∷ 19 ∷ []) $ free1 ! $ move ! (16 ∷ 17 ∷ []) $ free1 ! $ move ! (14 ∷ 15 ∷ []) $ free1 ! $ move ! (12 ∷ 13 ∷ []) $ free1 ! $ move ! (10 ∷ 11 ∷ []) $ free1 ! $ move ! (8 ∷ 9 ∷ []) $ free1 ! $ free0 ! $
-        keep ! (0 ∷ 1 ∷ 2 ∷ 3 ∷ 4 ∷ 7 ∷ []) $ by ! (exits r (zs .1 .1 .1 .1 .0) (heard-is r w is) m e₁ e₂ e₃)))))))))))))))))))))
+        keep ! (0 ∷ 1 ∷ 2 ∷ 3 ∷ 4 ∷ 7 ∷ []) $ by ! (exits r (zs .1 .1 .1 .1 .0) (answered-is r w is) m e₁ e₂ e₃)))))))))))))))))))))
 
 module _ {M : Type 1} (𝓤 : URA M) (H : Heap 𝓤) (A : Atoms 𝓤) (W : Given 𝓤 H A) (at-mem : Memory → SProp 𝓤) (run : Routine → Fun 𝓤) where
   follow-walks : (C : Calls 𝓤 H) (Λ : Loops 𝓤 H) → FmC 𝓤 H (W .laws) C → Triple 𝓤 (C #callee) (Called 𝓤 H A at-mem run) → Walks 𝓤 H A follow.ended stayed (WpFn 𝓤 H C Λ code.function) (follow.clauses 𝓤 H A at-mem run)
