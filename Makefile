@@ -2,8 +2,7 @@
 .PHONY: run test
 
 run:
-	@echo "Tashmirok: the proved heart of a VBAN recorder box."
-	@echo "The programs takelist and cutlist are still to come; 'make test' proves what stands."
+	@python3 outside/run.py
 
 test:
 	@python3 outside/gate.py

@@ -6,7 +6,7 @@ import tempfile
 from dataclasses import dataclass
 from pathlib import Path
 
-from programs import TARGET
+from programs import TARGET, environment
 
 INPUT = "stdin.bin"
 SECONDS = 30
@@ -27,10 +27,11 @@ CUTLIST = Job("cutlist", "cut.bin", "cut.cap", 24)
 
 @dataclass
 class Outcome:
-    """What a run leaves: lines, the output file, and in words what stands under its name."""
+    """What a run leaves: its lines, the output file, what stands there, and what else it said."""
     lines: bytes
     output: bytes
     left: str
+    said: str = "nothing on standard error"
 
 
 def copy_files(case, folder):
@@ -41,16 +42,27 @@ def copy_files(case, folder):
             shutil.copy(file, folder / file.name)
 
 
+def start(command, folder, given):
+    """Runs a command in a folder, its input an open file; gives nothing where it doesn't end."""
+    try:
+        return subprocess.run(command, cwd=folder, stdin=given, env=environment(),
+                              capture_output=True, timeout=SECONDS, check=False)
+    except subprocess.TimeoutExpired:
+        return None
+
+
 def left_in(folder, job, done):
     """The outcome of a run in its folder; no output file and an empty one differ."""
+    if done is None:
+        return Outcome(b"", b"", f"no end after {SECONDS} seconds")
+    if done.returncode < 0:
+        return Outcome(done.stdout, b"", f"ended by signal {-done.returncode}")
+    # The words are each program's own; that there are some is not.
+    said = "something on standard error" if done.stderr else Outcome.said
     path = folder / job.output
-    if path.is_dir():
-        # An output that can't be written has to be named on standard error.
-        said = "said on standard error" if done.stderr else "nothing said"
-        return Outcome(done.stdout, b"", "not writable, " + said)
     if path.is_file():
-        return Outcome(done.stdout, path.read_bytes(), "a file")
-    return Outcome(done.stdout, b"", "no file")
+        return Outcome(done.stdout, path.read_bytes(), "a file", said)
+    return Outcome(done.stdout, b"", "a folder" if path.is_dir() else "no file", said)
 
 
 def run(command, job, case):
@@ -60,11 +72,7 @@ def run(command, job, case):
         folder = Path(name)
         copy_files(case, folder)
         with open(case / INPUT, "rb") as given:
-            try:
-                done = subprocess.run(command, cwd=folder, stdin=given, capture_output=True,
-                                      timeout=SECONDS, check=False)
-            except subprocess.TimeoutExpired:
-                return Outcome(b"", b"", f"no end after {SECONDS} seconds")
+            done = start(command, folder, given)
         return left_in(folder, job, done)
 
 

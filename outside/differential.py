@@ -4,7 +4,6 @@ Every case goes through both; lines, `track.bin` and `cut.cap` are compared byte
 smallest case that shows a difference is kept and printed. The last line is `N passed, M failed`.
 """
 
-import argparse
 import os
 import shutil
 import subprocess
@@ -17,14 +16,13 @@ sys.dont_write_bytecode = True
 import cases
 import round_trip
 from cases import CUTLIST, INPUT, TAKELIST
-from programs import TARGET, build_reference, program, reference
+from programs import TARGET, arguments, build_reference, program, reference
 
 WORK = TARGET / "differential"
 
 
-def arguments():
-    parser = argparse.ArgumentParser(description=__doc__)
-    parser.add_argument("--programs", help="a folder with takelist and cutlist to try instead")
+def chosen():
+    parser = arguments(__doc__)
     parser.add_argument("--takes", type=int, default=1000)
     parser.add_argument("--cuts", type=int, default=1000)
     parser.add_argument("--histories", type=int, default=500)
@@ -111,8 +109,9 @@ def report(job, different, proved):
     one, other = pair(job, kept, proved)
     show("standard output", one.lines, other.lines)
     show(job.output, one.output, other.output)
-    if one.left != other.left:
-        print(f"  {job.output}: {one.left}, expected {other.left}")
+    for got, due in ((one.left, other.left), (one.said, other.said)):
+        if got != due:
+            print(f"  {job.output}: {got}, expected {due}")
 
 
 def compare(job, folders, proved):
@@ -128,7 +127,7 @@ def compare(job, folders, proved):
 
 
 def main():
-    wanted = arguments()
+    wanted = chosen()
     build_reference()
     takelist = program("takelist", wanted.programs)
     cutlist = program("cutlist", wanted.programs)

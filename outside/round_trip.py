@@ -184,9 +184,9 @@ def one(seed, number, takelist, cutlist):
     cases.save(folder, {TAKELIST.job: sender.address + sender.name.ljust(16, b"\0")}, capture)
     outcome = cases.run(takelist, TAKELIST, folder)
     taken = accepted(sender, heard)
-    answers = [line.split()[1] for line in outcome.lines.splitlines()]
-    if answers.count(b"0") != len(taken) or len(answers) * CAPTURED != len(capture):
-        return f"{folder}: {answers.count(b'0')} accepted, not {len(taken)}"
+    answers = [line.split(b" ")[1:2] for line in outcome.lines.splitlines()]
+    if answers.count([b"0"]) != len(taken) or len(answers) * CAPTURED != len(capture):
+        return f"{folder}: {answers.count([b'0'])} accepted, not {len(taken)}"
     if outcome.output != expected(sender, taken):
         return f"{folder}: the track is not what demand 3 says"
     return None

@@ -2,3 +2,4 @@ pub mod Following
 pub mod Cutting
 pub mod Reading
 pub mod Joining
+pub mod Lengths
