@@ -57,13 +57,17 @@ def program(name, folder=None):
     return [*launcher(), str(path)]
 
 
+def newest_source():
+    """When a source was last changed."""
+    sources = [ROOT / "crates.txt", *filter(Path.is_file, (ROOT / "crates").rglob("*"))]
+    return max(path.stat().st_mtime for path in sources)
+
+
 def up_to_date():
     """Whether both programs stand and are newer than every source."""
     built = [TARGET / "bin" / name for name in PROGRAMS]
-    sources = [ROOT / "crates.txt", *filter(Path.is_file, (ROOT / "crates").rglob("*"))]
     return (all(path.is_file() for path in built)
-            and max(path.stat().st_mtime for path in sources)
-            <= min(path.stat().st_mtime for path in built))
+            and newest_source() <= min(path.stat().st_mtime for path in built))
 
 
 def build_programs():

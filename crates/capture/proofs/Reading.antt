@@ -6,8 +6,9 @@ use native.Mathlib.Omega.{arith}
 use lib.ListN.{length, take, drop, replicate}
 use lib.Seq.{take-at, drop-at, take-add, getD-take, length-take-le}
 use Rattle.lists.specs.Lists.{byte}
+use Rattle.wire.specs.Header.{fourAt}
 use Rattle.wire.proofs.Joining.{counter-joined}
-use Rattle.capture.specs.Records.{fourAt, addressOf, lengthOf, datagramOf, recordOf}
+use Rattle.capture.specs.Records.{addressOf, lengthOf, datagramOf, recordOf}
 use Rattle.capture.specs.Fold.{eventOf}
 use Rattle.capture.proofs.Following.{datagram-held}
 

@@ -1,18 +1,14 @@
 -- Capture records (document 01, "Track and capture"): 1,472 bytes each.
-use Prim.Native.Nat.{ℕ, _+_, _-_, _*_}
+use Prim.Native.Nat.{ℕ, _+_, _-_}
 use mathlib.Core.List.{List, _++_}
 use lib.ListN.{length, take, drop, replicate}
 use lib.Dec.{eqb}
-use Rattle.lists.specs.Lists.{byte}
 use Rattle.lists.specs.Tables.{choose}
 use Rattle.answers.specs.Numbers.{numberMade}
 use Rattle.wire.specs.declared.header.Header.{Header}
+use Rattle.wire.specs.Header.{fourAt}
 use Rattle.wire.specs.Write.{four}
 use Rattle.cutter.specs.Cut.{cutAnswer, cutPacket}
-
--- four bytes from index i on as a number, little-endian
-abbrev pub fourAt : List ℕ → ℕ → ℕ
-fourAt r i = byte r i + byte r (i + 1) * 256 + byte r (i + 2) * 65536 + byte r (i + 3) * 16777216
 
 -- the sender's address: bytes 0-3 as one number
 abbrev pub addressOf : List ℕ → ℕ

@@ -95,6 +95,10 @@ copied xs ys src a n l p =
     let e : ys ≡ src = p ∙ rw (m, take-length, drop-of-length-le (take (length src) (drop a xs)) w) (append-nil src) in
     rw e (lent xs src a (a + n - a) (sym m))
 
+-- a copy over a list as long is what was copied
+pub copied-whole : (d src : List ℕ) → length src ≡ length d → take (length src) src ++ drop (length src) d ≡ src
+copied-whole d src h = rw (take-length src, drop-of-length-le d (le-of-eq (sym h))) (append-nil src)
+
 -- ---- n lists of w elements each
 
 module _ (w : ℕ) (f : ℕ → List ℕ) (each : (k : ℕ) → length (f k) ≡ w) where

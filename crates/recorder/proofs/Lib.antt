@@ -1,3 +1,5 @@
+pub mod Facts
+pub mod Lending
 pub mod Paint
 pub mod Accepting
 pub mod Standing

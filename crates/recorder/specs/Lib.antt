@@ -1,4 +1,5 @@
 pub mod Answered
+pub mod Lending
 pub mod Took
 pub mod Shows
 pub mod Box

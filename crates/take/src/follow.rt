@@ -60,14 +60,12 @@ fn stream_refusal(t: Take, address: u32, d: &[u8]) -> Answer
     if bad_state(t) {
         return Answer::State;
     }
-    let f = wire::read::front(d);
-    let a = f.answer;
+    let a = wire::read::front_refusal(d);
     if answers::number(a) != 0 {
         return a;
     }
     let ours = t.name;
-    let name = f.name;
-    if !wire::name::same(&ours, &name) {
+    if !wire::name::same(&ours, &d[8..24]) {
         return Answer::OtherStream;
     }
     if address != t.address {
@@ -166,12 +164,11 @@ fn judge(t: Take, address: u32, d: &[u8], held: usize) -> Judged
     if answers::number(a) != 0 {
         return refused(a);
     }
-    let read = wire::read::read(d);
-    let b = read.answer;
+    let b = wire::read::audio_refusal(d);
     if answers::number(b) != 0 {
         return refused(b);
     }
-    let header = read.header;
+    let header = wire::header::fields(d);
     let e = take_refusal(t, header, held);
     if answers::number(e) != 0 {
         return refused(e);

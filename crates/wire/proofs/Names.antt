@@ -199,7 +199,3 @@ module _ (m n : List ℕ) where
   pub same-exactly : sameName m n ≡ true ↔ nameOf m ≡ nameOf n
   unfolding sameName
   same-exactly = (same-bytes (nameOf m) (nameOf n), (λ e. rw e (bytes-same (nameOf n))))
-
-  pub same-kept-right : sameName m (keptName n) ≡ sameName m n
-  unfolding sameName
-  same-kept-right = rw (kept-name n)

@@ -45,9 +45,13 @@ joinedSeven format reserved codec = format + reserved * 8 + codec * 16
 abbrev pub fieldOf : List ℕ → List ℕ
 fieldOf d = take 16 (drop 8 d)
 
--- bytes 24-27, little-endian
+-- four bytes from index i on as a number, little-endian
+abbrev pub fourAt : List ℕ → ℕ → ℕ
+fourAt d i = byte d i + byte d (i + 1) * 256 + byte d (i + 2) * 65536 + byte d (i + 3) * 16777216
+
+-- bytes 24-27
 abbrev pub counterOf : List ℕ → ℕ
-counterOf d = byte d 24 + byte d 25 * 256 + byte d 26 * 65536 + byte d 27 * 16777216
+counterOf d = fourAt d 24
 
 -- frames and channels are counts, the rate is its index, zeros fill the name
 abbrev pub headerOf : List ℕ → Header

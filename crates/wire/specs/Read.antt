@@ -2,7 +2,7 @@
 use Prim.Native.Nat.{ℕ, _+_, _*_, _≤_}
 use mathlib.Core.Path.{_≡_}
 use mathlib.Core.List.{List, [], _∷_, _++_}
-use lib.ListN.{length, take, replicate}
+use lib.ListN.{length, take}
 use lib.Dec.{ltb, eqb}
 use Rattle.lists.specs.Lists.{byte}
 use Rattle.lists.specs.Tables.{Row, row, choose, first, unlike}
@@ -11,21 +11,14 @@ use Rattle.answers.specs.declared.Answer.{Answer}
 use Rattle.answers.specs.declared.Answer.the-variants.{Accepted, Short, Long, Foreign, Name, SubProtocol, Codec, Reserved, Rate, DataType, Length}
 use Rattle.answers.specs.Numbers.{numberOf}
 use Rattle.samples.specs.Formats.{sizeAt}
-use Rattle.wire.specs.declared.read.FrontAnswer.{FrontAnswer}
 use Rattle.wire.specs.declared.read.ReadAnswer.{ReadAnswer}
-use Rattle.wire.specs.Names.{GoodName, keptName}
+use Rattle.wire.specs.Names.{GoodName}
 use Rattle.wire.specs.Header.{subBits, codecBits, reservedBit, rateBits, formatBits, fieldOf, headerOf, noHeader, dataSize, markRows, fieldRows}
 
 -- ---- the front: rows 1 to 4 and the name
 
 abbrev pub frontRows : List ℕ → List (Row Answer)
 frontRows d = row Short (ltb (length d) 28) ∷ row Long (ltb 1464 (length d)) ∷ markRows d
-
-abbrev pub frontAnswered : Answer → List ℕ → FrontAnswer
-frontAnswered a d = record { answer = a; name = choose (eqb (numberOf a) 0) (keptName (fieldOf d)) (replicate 16 0) }
-
-unfoldable pub frontOf : List ℕ → FrontAnswer
-frontOf d = frontAnswered (first Accepted (frontRows d)) d
 
 -- ---- reading
 

@@ -105,7 +105,7 @@ fn counter(d: &[u8]) -> u32
     )
 }
 
-pub(crate) fn fields(d: &[u8]) -> Header
+pub fn fields(d: &[u8]) -> Header
     requires { ⌜ 28 ≤ length (now d) ⌝ }
     ensures { λ r. ⌜ r ≡ headerOf (now (d .entry)) ⌝ }
 {

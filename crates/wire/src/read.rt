@@ -6,16 +6,11 @@ ghost use lib.Dec.{ltb};
 ghost use Rattle.lists.specs.Tables.{first, unlike};
 ghost use Rattle.answers.specs.declared.Answer.the-variants.{Accepted};
 ghost use Rattle.wire.specs.Header.{headerOf, dataSize};
-ghost use Rattle.wire.specs.Read.{frontRows, frontOf, lengthRows, audioRows, readRows, readOf};
+ghost use Rattle.wire.specs.Read.{frontRows, lengthRows, audioRows, readRows, readOf};
 use crate::header::Header;
 use answers::Answer;
 
-// What the front of a datagram gives: rows 1 to 4, and its name.
-pub struct FrontAnswer {
-    pub answer: Answer,
-    pub name: [u8; 16],
-}
-
+// The answer, and zeros beside a refusal.
 pub struct ReadAnswer {
     pub answer: Answer,
     pub header: Header,
@@ -34,7 +29,8 @@ fn is_inexact(d: &[u8]) -> bool
     d.len() != 28 + crate::header::size_in(d)
 }
 
-fn front_refusal(d: &[u8]) -> Answer
+// Rows 1 to 4.
+pub fn front_refusal(d: &[u8]) -> Answer
     ensures { λ r. ⌜ r ≡ first Accepted (frontRows (now (d .entry))) ⌝ }
 {
     if d.len() < 28 {
@@ -44,20 +40,6 @@ fn front_refusal(d: &[u8]) -> Answer
         return Answer::Long;
     }
     crate::header::mark_refusal(d)
-}
-
-pub fn front(d: &[u8]) -> FrontAnswer
-    ensures { λ r. ⌜ r ≡ frontOf (now (d .entry)) ⌝ }
-{
-    let a = front_refusal(d);
-    if answers::number(a) != 0 {
-        return FrontAnswer {
-            answer: a,
-            name: [0u8; 16],
-        };
-    }
-    let name = crate::name::kept(&d[8..24]);
-    FrontAnswer { answer: a, name }
 }
 
 fn length_refusal(d: &[u8]) -> Answer
@@ -70,7 +52,7 @@ fn length_refusal(d: &[u8]) -> Answer
 }
 
 // Rows 6 to 11.
-fn audio_refusal(d: &[u8]) -> Answer
+pub fn audio_refusal(d: &[u8]) -> Answer
     ensures { λ r. ⌜ r ≡ first Accepted (audioRows (now (d .entry))) ⌝ }
 {
     let a = crate::header::field_refusal(d);

@@ -7,6 +7,7 @@ pub mod convert;
 pub mod cut;
 pub mod cutlist;
 pub mod header;
+pub mod hostile;
 pub mod names;
 pub mod read;
 pub mod refusal;

@@ -1,11 +1,12 @@
 -- The name is the 16 bytes after the address.
 use mathlib.Core.Path.{_≡_, refl, ap, _∙_}
-use mathlib.Core.List.{List, _++_, append-nil}
+use mathlib.Core.List.{List, _++_}
 use Prim.Native.Nat.{ℕ}
 use native.Mathlib.Omega.{arith}
 use lib.ListN.{length, take, drop, replicate, length-drop}
-use lib.Seq.{take-length, length-take-le}
+use lib.Seq.{length-take-le}
 use borrow.Author.Needs.{needs}
+use Rattle.lists.proofs.Lists.{copied-whole}
 use Rattle.take.specs.declared.Opened.{Opened}
 use Rattle.take.specs.Take.{openOf, openedTrack}
 use Rattle.capture.specs.Records.{addressOf}
@@ -17,7 +18,7 @@ module _ (wanted name : List ℕ) (twenty : length wanted ≡ 20) (src : List �
   named : name ≡ take 16 (drop 4 wanted)
   named =
       let l : length src ≡ 16 = ap length s ∙ length-take-le 16 (drop 4 wanted) (rw length-drop (omega (arith, twenty))) in
-      p ∙ rw (take-length src, l, append-nil src) s
+      p ∙ copied-whole (replicate 16 0) src l ∙ s
 
   opens : (o : Opened) (track after : List ℕ) (address : ℕ) → address ≡ addressOf wanted → o ≡ openOf name address → after ≡ openedTrack name track
       → (o ≡ openOf (take 16 (drop 4 wanted)) (addressOf wanted)) × (after ≡ openedTrack (take 16 (drop 4 wanted)) track)

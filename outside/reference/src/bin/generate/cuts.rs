@@ -1,13 +1,13 @@
 //! Hostile jobs for cutlist.
 
 use crate::case::Case;
-use crate::packet::Packet;
-use crate::random::Random;
-use crate::samples::{self, STEP_24_TO_16, STEP_24_TO_8};
 use reference::convert::SLOT;
 use reference::cut::largest;
 use reference::cutlist::{CAPTURE, JOB, LONGEST, RECORDS};
 use reference::header::Header;
+use reference::hostile::packet::Packet;
+use reference::hostile::random::Random;
+use reference::hostile::samples::{self, STEP_24_TO_16, STEP_24_TO_8};
 use reference::track::{RECORD, SLOT_BYTES};
 
 /// How many cases the sweeps are.

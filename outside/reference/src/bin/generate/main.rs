@@ -3,10 +3,6 @@
 mod case;
 mod counts;
 mod cuts;
-mod flaws;
-mod packet;
-mod random;
-mod samples;
 mod sweeps;
 mod takes;
 
@@ -17,7 +13,7 @@ use std::process::ExitCode;
 
 use case::Case;
 use counts::Counts;
-use random::Random;
+use reference::hostile::random::Random;
 
 /// Which program the cases are for.
 #[derive(Clone, Copy)]

@@ -1,11 +1,11 @@
 //! Cases for takelist that go through a whole range: fields, lengths, name bytes, ties.
 
 use crate::case::Case;
-use crate::flaws::LENGTHS;
-use crate::packet::Packet;
-use crate::random::Random;
 use crate::takes::{cut_last, Scene};
 use reference::header::Header;
+use reference::hostile::flaws::LENGTHS;
+use reference::hostile::packet::Packet;
+use reference::hostile::random::Random;
 
 /// How many cases the sweeps are.
 pub const COUNT: usize = 44;

@@ -1,13 +1,13 @@
 //! Hostile jobs for takelist.
 
 use crate::case::Case;
-use crate::flaws::spoil;
-use crate::packet::Packet;
-use crate::random::Random;
-use crate::samples;
 use reference::capture::RECORD;
 use reference::cut::largest;
 use reference::header::Header;
+use reference::hostile::flaws::spoil;
+use reference::hostile::packet::Packet;
+use reference::hostile::random::Random;
+use reference::hostile::samples;
 use reference::take::Begun;
 use reference::takelist::{Listing, JOB, RECORDS, TRACK};
 
@@ -80,21 +80,6 @@ pub fn job(wanted: &Packet) -> Vec<u8> {
     [&wanted.address[..], &wanted.header.name].concat()
 }
 
-/// A counter of a begun take: next, lost, repeated, late, or a jump of about half the range.
-fn counter(random: &mut Random, newest: u32) -> u32 {
-    let few = u32::try_from(random.between(2, 6)).unwrap_or(2);
-    let half = 0x8000_0000_u32;
-    let d = match random.between(0, 11) {
-        0..=4 => 1,
-        5 | 6 => few,
-        7 => 0,
-        8 | 9 => few.wrapping_neg() + 1,
-        10 => random.pick(&[half - 2, half - 1, half, half + 1]),
-        _ => u32::try_from(random.between(0, u32::MAX.into())).unwrap_or(0),
-    };
-    newest.wrapping_add(d)
-}
-
 /// Counter and frames of a packet whose end is the track's last record, or one past it.
 fn at_the_end(random: &mut Random, begun: &Begun) -> (u32, u16) {
     let room = (RECORDS as u64).saturating_sub(begun.newest_place).max(1);
@@ -120,7 +105,7 @@ fn next_packet(scene: &mut Scene) -> Packet {
         let (counter, frames) = at_the_end(&mut scene.random, &begun);
         return scene.packet(counter, frames);
     }
-    let counter = counter(&mut scene.random, begun.newest);
+    let counter = samples::counter_after(&mut scene.random, begun.newest);
     let fewer = u16::try_from(scene.random.between(1, begun.n.into())).unwrap_or(1);
     let more = (begun.n + 1).min(256);
     let frames = match scene.random.between(0, 11) {

@@ -1,7 +1,7 @@
 //! Hostile sample numbers, names and counters, for packets and for tracks.
 
-use crate::random::Random;
-use reference::convert::Format;
+use crate::convert::Format;
+use crate::hostile::random::Random;
 
 /// How many of a wide type's numbers one step of a narrower type spans.
 pub const STEP_32_TO_24: i64 = 256;
@@ -51,7 +51,7 @@ pub fn name(random: &mut Random) -> [u8; 16] {
 
 /// The same name with garbage after its first zero, where it has one.
 pub fn garbage_after(random: &mut Random, mut field: [u8; 16]) -> [u8; 16] {
-    let end = reference::names::characters(&field).len();
+    let end = crate::names::characters(&field).len();
     if let Some(rest) = field.get_mut(end + 1..) {
         rest.fill_with(|| random.byte_between(0, 255));
     }
@@ -60,7 +60,7 @@ pub fn garbage_after(random: &mut Random, mut field: [u8; 16]) -> [u8; 16] {
 
 /// Another good name that is close to this one: longer, shorter, or one character off.
 pub fn neighbour(random: &mut Random, field: [u8; 16]) -> [u8; 16] {
-    let end = reference::names::characters(&field).len();
+    let end = crate::names::characters(&field).len();
     let mut other = field;
     match random.between(0, 2) {
         0 if end < 16 => {
@@ -78,7 +78,7 @@ pub fn neighbour(random: &mut Random, field: [u8; 16]) -> [u8; 16] {
 
 /// A name that breaks the rule: empty, or with a byte outside 20 to 7E before its first zero.
 pub fn bad_name(random: &mut Random, mut field: [u8; 16]) -> [u8; 16] {
-    let end = reference::names::characters(&field).len();
+    let end = crate::names::characters(&field).len();
     if random.chance(30) {
         field[0] = 0;
     } else {
@@ -97,4 +97,19 @@ pub fn counter(random: &mut Random) -> u32 {
         1 | 2 => near.wrapping_sub(step),
         _ => u32::try_from(random.between(0, u32::MAX.into())).unwrap_or(0),
     }
+}
+
+/// A counter of a begun take: next, lost, repeated, late, or a jump of about half the range.
+pub fn counter_after(random: &mut Random, newest: u32) -> u32 {
+    let few = u32::try_from(random.between(2, 6)).unwrap_or(2);
+    let half = 0x8000_0000_u32;
+    let d = match random.between(0, 11) {
+        0..=4 => 1,
+        5 | 6 => few,
+        7 => 0,
+        8 | 9 => few.wrapping_neg() + 1,
+        10 => random.pick(&[half - 2, half - 1, half, half + 1]),
+        _ => u32::try_from(random.between(0, u32::MAX.into())).unwrap_or(0),
+    };
+    newest.wrapping_add(d)
 }

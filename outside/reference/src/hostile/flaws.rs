@@ -1,9 +1,9 @@
 //! What can be wrong with a packet: one flaw a function call, several flaws a packet.
 
-use crate::packet::Packet;
-use crate::random::Random;
-use crate::samples;
-use reference::header::{Header, MOST};
+use crate::header::{Header, MOST};
+use crate::hostile::packet::Packet;
+use crate::hostile::random::Random;
+use crate::hostile::samples;
 
 /// Lengths at the edges of document 01's rows 1 and 2, and of 16, 31 and 32-bit numbers.
 pub const LENGTHS: [u32; 21] = [

@@ -1,9 +1,9 @@
 //! A datagram as its fields, each of which a case may spoil before the bytes are made.
 
-use crate::random::Random;
-use crate::samples;
-use reference::capture::RECORD;
-use reference::header::{Header, HEADER, MARK, MOST, MOST_DATA};
+use crate::capture::RECORD;
+use crate::header::{Header, HEADER, MARK, MOST, MOST_DATA};
+use crate::hostile::random::Random;
+use crate::hostile::samples;
 
 #[derive(Clone)]
 pub struct Packet {
@@ -50,7 +50,7 @@ impl Packet {
     }
 
     /// The datagram's bytes, the change of length included.
-    fn bytes(&self, random: &mut Random) -> Vec<u8> {
+    pub fn bytes(&self, random: &mut Random) -> Vec<u8> {
         if let Some(noise) = &self.noise {
             return noise.clone();
         }

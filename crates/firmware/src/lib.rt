@@ -1,0 +1,232 @@
+// The box's face for C: every function answers document 01's number, and zeros in what it writes beside a refusal.
+ghost use mathlib.Core.Path.{_≡_};
+ghost use Rattle.answers.specs.Numbers.{numberOf, numberMade};
+ghost use Rattle.samples.specs.Convert.{convertOf};
+ghost use Rattle.wire.specs.Rates.{rateOf};
+ghost use Rattle.wire.specs.Read.{readOf};
+ghost use Rattle.wire.specs.Write.{writeOf, outputOf};
+ghost use Rattle.take.specs.Take.{openOf, openedTrack};
+ghost use Rattle.take.specs.Tally.{cleared};
+ghost use Rattle.take.specs.Follow.{followedTrack};
+ghost use Rattle.cutter.specs.Largest.{largestOf};
+ghost use Rattle.cutter.specs.Cut.{cutOf, cutOutput};
+ghost use Rattle.firmware.specs.Kept.{takeBytes, takeOf};
+ghost use Rattle.firmware.specs.Face.{fieldsOf, headerFrom, followedFor, laidFor, keptAfter, countFor};
+use wire::header::Header;
+
+mod kept;
+
+// The rate of an index, in Hz.
+#[no_mangle]
+pub extern "C" fn tashmirok_rate(index: u8, hertz: &mut u32) -> u8
+    ensures { λ r. ⌜ r ≡ numberOf (rateOf index .answer) ⌝ }
+    ensures { λ _. ⌜ now (hertz .exit) ≡ rateOf index .hertz ⌝ }
+{
+    let rated = recorder::rate(index);
+    let answer = rated.answer;
+    *hertz = rated.hertz;
+    answers::number(answer)
+}
+
+// One number of a type as a number of another.
+#[no_mangle]
+pub extern "C" fn tashmirok_convert(from: u8, to: u8, number: i64, converted: &mut i64) -> u8
+    ensures { λ r. ⌜ r ≡ numberMade (convertOf from to number .answer) ⌝ }
+    ensures { λ _. ⌜ now (converted .exit) ≡ convertOf from to number .value ⌝ }
+{
+    let made = recorder::convert(from, to, number);
+    let answer = made.answer;
+    let value = made.value;
+    *converted = value;
+    answers::number_made(answer)
+}
+
+// One datagram: its header's numbers, its name and the number of its data bytes.
+#[no_mangle]
+pub extern "C" fn tashmirok_read(
+    datagram: &[u8],
+    fields: &mut [u32; 5],
+    name: &mut [u8; 16],
+    size: &mut usize,
+) -> u8
+    ensures { λ r. ⌜ r ≡ numberOf (readOf (now (datagram .entry)) .answer) ⌝ }
+    ensures { λ _. ⌜ now (fields .exit) ≡ fieldsOf (readOf (now (datagram .entry)) .header) ⌝ }
+    ensures { λ _. ⌜ now (name .exit) ≡ readOf (now (datagram .entry)) .header .name ⌝ }
+    ensures { λ _. ⌜ now (size .exit) ≡ readOf (now (datagram .entry)) .size ⌝ }
+{
+    let read = recorder::read(datagram);
+    let h = read.header;
+    let n = h.name;
+    *fields = [
+        h.rate as u32,
+        h.frames as u32,
+        h.channels as u32,
+        h.format as u32,
+        h.counter,
+    ];
+    *name = n;
+    *size = read.size;
+    let answer = read.answer;
+    answers::number(answer)
+}
+
+// One packet into the lent output.
+#[no_mangle]
+pub extern "C" fn tashmirok_write(
+    rate: u8,
+    frames: u16,
+    channels: u16,
+    format: u8,
+    name: &[u8; 16],
+    counter: u32,
+    samples: &[u8],
+    out: &mut [u8],
+    written: &mut usize,
+) -> u8
+    ensures { λ r. ⌜ r ≡ numberMade (writeOf (headerFrom rate frames channels format (now (name .entry)) counter) (now (samples .entry)) (now (out .entry)) .answer) ⌝ }
+    ensures { λ _. ⌜ now (out .exit) ≡ outputOf (headerFrom rate frames channels format (now (name .entry)) counter) (now (samples .entry)) (now (out .entry)) ⌝ }
+    ensures { λ _. ⌜ now (written .exit) ≡ writeOf (headerFrom rate frames channels format (now (name .entry)) counter) (now (samples .entry)) (now (out .entry)) .length ⌝ }
+{
+    let name = *name;
+    let header = Header {
+        rate,
+        frames,
+        channels,
+        format,
+        name,
+        counter,
+    };
+    let made = recorder::write(header, samples, out);
+    *written = made.length;
+    let answer = made.answer;
+    answers::number_made(answer)
+}
+
+// The most frames that a packet of a type and channels can have.
+#[no_mangle]
+pub extern "C" fn tashmirok_largest(format: u8, channels: u16, frames: &mut u16) -> u8
+    ensures { λ r. ⌜ r ≡ numberMade (largestOf format channels .answer) ⌝ }
+    ensures { λ _. ⌜ now (frames .exit) ≡ largestOf format channels .frames ⌝ }
+{
+    let largest = recorder::largest(format, channels);
+    *frames = largest.frames;
+    let answer = largest.answer;
+    answers::number_made(answer)
+}
+
+// Packet `k` of a track, into the lent output.
+#[no_mangle]
+pub extern "C" fn tashmirok_cut(
+    rate: u8,
+    frames: u16,
+    channels: u16,
+    format: u8,
+    name: &[u8; 16],
+    start: u32,
+    track: &[u8],
+    k: u32,
+    out: &mut [u8],
+    written: &mut usize,
+) -> u8
+    ensures { λ r. ⌜ r ≡ numberMade (cutOf (headerFrom rate frames channels format (now (name .entry)) start) (now (track .entry)) k (now (out .entry)) .answer) ⌝ }
+    ensures { λ _. ⌜ now (out .exit) ≡ cutOutput (headerFrom rate frames channels format (now (name .entry)) start) (now (track .entry)) k (now (out .entry)) ⌝ }
+    ensures { λ _. ⌜ now (written .exit) ≡ cutOf (headerFrom rate frames channels format (now (name .entry)) start) (now (track .entry)) k (now (out .entry)) .length ⌝ }
+{
+    let name = *name;
+    let header = Header {
+        rate,
+        frames,
+        channels,
+        format,
+        name,
+        counter: start,
+    };
+    let made = recorder::cut(header, track, k, out);
+    *written = made.length;
+    let answer = made.answer;
+    answers::number_made(answer)
+}
+
+// How many bytes a take has.
+#[no_mangle]
+pub extern "C" fn tashmirok_take_size() -> usize
+    ensures { λ r. ⌜ r ≡ 40 ⌝ }
+{
+    40
+}
+
+// How many bytes a tally has.
+#[no_mangle]
+pub extern "C" fn tashmirok_tally_size() -> usize
+    ensures { λ r. ⌜ r ≡ 68 ⌝ }
+{
+    68
+}
+
+// A cleared tally.
+#[no_mangle]
+pub extern "C" fn tashmirok_clear_tally(tally: &mut [u32; 17])
+    ensures { λ _. ⌜ now (tally .exit) ≡ cleared .counts ⌝ }
+{
+    let cleared = recorder::tally();
+    let counts = cleared.counts;
+    *tally = counts;
+}
+
+// The count of an answer's number; 0 where no answer has it.
+#[no_mangle]
+pub extern "C" fn tashmirok_count(tally: &[u32; 17], number: u8) -> u32
+    ensures { λ r. ⌜ r ≡ countFor (now (tally .entry)) number ⌝ }
+{
+    let i = number as usize;
+    if i < 17 { tally[i] } else { 0 }
+}
+
+// A take for a name and a sender's address, on a lent track.
+#[no_mangle]
+pub extern "C" fn tashmirok_open(
+    kept: &mut [u8; 40],
+    name: &[u8; 16],
+    address: u32,
+    track: &mut [u8],
+) -> u8
+    ensures { λ r. ⌜ r ≡ numberOf (openOf (now (name .entry)) address .answer) ⌝ }
+    ensures { λ _. ⌜ now (kept .exit) ≡ takeBytes (openOf (now (name .entry)) address .take) ⌝ }
+    ensures { λ _. ⌜ now (track .exit) ≡ openedTrack (now (name .entry)) (now (track .entry)) ⌝ }
+{
+    let opened = recorder::open(*name, address, track);
+    let take = opened.take;
+    kept::store(take, kept);
+    let answer = opened.answer;
+    answers::number(answer)
+}
+
+// One datagram into the take; one count of the tally is raised.
+#[no_mangle]
+pub extern "C" fn tashmirok_follow(
+    kept: &mut [u8; 40],
+    tally: &mut [u32; 17],
+    address: u32,
+    datagram: &[u8],
+    track: &mut [u8],
+    laid: &mut [u64; 3],
+) -> u8
+    ensures { λ r. ⌜ r ≡ numberOf (followedFor (now (kept .entry)) (now (tally .entry)) address (now (datagram .entry)) (now (track .entry)) .answer) ⌝ }
+    ensures { λ _. ⌜ now (laid .exit) ≡ laidFor (followedFor (now (kept .entry)) (now (tally .entry)) address (now (datagram .entry)) (now (track .entry))) ⌝ }
+    ensures { λ _. ⌜ now (kept .exit) ≡ keptAfter (now (kept .entry)) (followedFor (now (kept .entry)) (now (tally .entry)) address (now (datagram .entry)) (now (track .entry))) ⌝ }
+    ensures { λ _. ⌜ now (tally .exit) ≡ followedFor (now (kept .entry)) (now (tally .entry)) address (now (datagram .entry)) (now (track .entry)) .tally .counts ⌝ }
+    ensures { λ _. ⌜ now (track .exit) ≡ followedTrack (takeOf (now (kept .entry))) address (now (datagram .entry)) (now (track .entry)) ⌝ }
+{
+    let counted = recorder::lent::follow_counts(kept::load(kept), *tally, address, datagram, track);
+    let counts = counted.counts;
+    *tally = counts;
+    let f = counted.answered;
+    *laid = [f.place as u64, f.frames as u64, f.skipped as u64];
+    let answer = f.answer;
+    let number = answers::number(answer);
+    if number == 0 {
+        let take = f.take;
+        kept::store(take, kept);
+    }
+    number
+}

@@ -1,0 +1,143 @@
+//! Rounds of calls by the clock.
+
+use std::hint::black_box;
+use std::time::Instant;
+
+use crate::inputs::{bytes, Shape, RECORD, RECORDS};
+use crate::sides::{Side, DESK};
+
+const ROUNDS: usize = 41;
+const NANOSECONDS: f64 = 1_000_000.0;
+
+/// What every side is lent: the same bytes at the same places.
+pub struct Lent {
+    track: Vec<u8>,
+    out: Vec<u8>,
+    datagram: Vec<u8>,
+}
+
+impl Lent {
+    /// A filled track, for cutting, and a datagram, for following.
+    pub fn new(datagram: Vec<u8>) -> Self {
+        Lent { track: bytes(RECORDS * RECORD), out: vec![0; 1464], datagram }
+    }
+}
+
+/// One of the things timed beside each other: makes so many sweeps and gives the calls made.
+pub type Sweep = Box<dyn FnMut(usize, &mut Lent) -> usize>;
+
+/// Nanoseconds a call of some sweeps.
+fn clock(sweep: &mut Sweep, sweeps: usize, lent: &mut Lent) -> f64 {
+    let began = Instant::now();
+    let calls = sweep(sweeps, lent);
+    began.elapsed().as_nanos() as f64 / calls as f64
+}
+
+/// How many sweeps last about a millisecond.
+fn sweeps_of(sweep: &mut Sweep, lent: &mut Lent) -> usize {
+    let mut sweeps = 1;
+    loop {
+        let began = Instant::now();
+        sweep(sweeps, lent);
+        let took = began.elapsed().as_nanos() as f64;
+        if took > NANOSECONDS / 4.0 {
+            return ((NANOSECONDS / took * sweeps as f64) as usize).max(1);
+        }
+        sweeps *= 2;
+    }
+}
+
+/// Medians, in nanoseconds a call, of rounds in which all take turns.
+pub fn medians(mut sweeps: Vec<Sweep>, mut lent: Lent) -> Vec<f64> {
+    let counts: Vec<usize> = sweeps.iter_mut().map(|sweep| sweeps_of(sweep, &mut lent)).collect();
+    let mut times = vec![Vec::new(); sweeps.len()];
+    for _ in 0..ROUNDS {
+        for ((sweep, &count), times) in sweeps.iter_mut().zip(&counts).zip(&mut times) {
+            times.push(clock(sweep, count, &mut lent));
+        }
+    }
+    times.iter_mut().for_each(|times| times.sort_by(f64::total_cmp));
+    times.iter().map(|times| times[ROUNDS / 2]).collect()
+}
+
+/// Follows a track full of accepted packets from a fresh take, again and again.
+pub fn accepted<S: Side>(shape: Shape) -> Sweep {
+    let mut side = S::open(&mut []);
+    Box::new(move |sweeps, Lent { track, datagram, .. }| {
+        let (mut answers, mut laid) = (0, [0; 3]);
+        for _ in 0..sweeps {
+            side.reopen();
+            for counter in 0..shape.packets() {
+                datagram[24..28].copy_from_slice(&counter.to_le_bytes());
+                answers |= side.follow(DESK, black_box(datagram), black_box(track), &mut laid);
+            }
+        }
+        assert_eq!(answers, 0);
+        sweeps * shape.packets() as usize
+    })
+}
+
+/// Follows one datagram that is refused, on a take that was begun.
+pub fn refused<S: Side>(address: u32, due: u8) -> Sweep {
+    const CALLS: usize = 64;
+    let (mut first, begin) = (vec![0; RECORDS * RECORD], Shape::largest(1, 2).datagram());
+    let mut side = S::open(&mut first);
+    assert_eq!(side.follow(DESK, &begin, &mut first, &mut [0; 3]), 0);
+    Box::new(move |sweeps, Lent { track, datagram, .. }| {
+        let (mut same, mut laid) = (true, [0; 3]);
+        for _ in 0..sweeps * CALLS {
+            same &= side.follow(address, black_box(datagram), black_box(track), &mut laid) == due;
+        }
+        assert!(same);
+        sweeps * CALLS
+    })
+}
+
+/// Cuts every whole packet of a track.
+pub fn cut<S: Side>(shape: Shape) -> Sweep {
+    Box::new(move |sweeps, Lent { track, out, .. }| {
+        let (mut answers, mut written) = (0, 0);
+        for _ in 0..sweeps {
+            for k in 0..shape.packets() {
+                answers |= S::cut(&shape.form(), black_box(track), k, black_box(out), &mut written);
+            }
+        }
+        assert_eq!(answers, 0);
+        sweeps * shape.packets() as usize
+    })
+}
+
+/// Clears by plain stores, which on some processors are faster than the system's way.
+fn clear(bytes: &mut [u8]) {
+    let zero = black_box(0_u64);
+    for word in bytes.chunks_exact_mut(8) {
+        word.copy_from_slice(&zero.to_le_bytes());
+    }
+}
+
+/// The least that following does: as many bytes cleared as are written, at the same places.
+pub fn cleared(shape: Shape) -> Sweep {
+    let part = usize::from(shape.frames) * RECORD;
+    Box::new(move |sweeps, Lent { track, .. }| {
+        for _ in 0..sweeps {
+            for k in 0..shape.packets() as usize {
+                clear(&mut black_box(&mut *track)[k * part..(k + 1) * part]);
+            }
+        }
+        sweeps * shape.packets() as usize
+    })
+}
+
+/// The least that cutting does: as many bytes copied as are written, from the same places.
+pub fn copied(shape: Shape) -> Sweep {
+    let (length, part) = (28 + shape.data(), usize::from(shape.frames) * RECORD);
+    Box::new(move |sweeps, Lent { track, out, .. }| {
+        for _ in 0..sweeps {
+            for k in 0..shape.packets() as usize {
+                let from = (k * part).min(track.len() - length);
+                black_box(&mut *out)[..length].copy_from_slice(&black_box(&*track)[from..from + length]);
+            }
+        }
+        sweeps * shape.packets() as usize
+    })
+}
