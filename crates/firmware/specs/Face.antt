@@ -6,6 +6,7 @@ use lib.Dec.{ltb, eqb}
 use Rattle.lists.specs.Tables.{choose}
 use Rattle.answers.specs.Numbers.{numberOf}
 use Rattle.wire.specs.declared.header.Header.{Header}
+use Rattle.take.specs.declared.Tally.{Tally}
 use Rattle.take.specs.declared.Followed.{Followed}
 use Rattle.take.specs.Follow.{followOf}
 use Rattle.firmware.specs.Kept.{takeOf, takeBytes}
@@ -19,9 +20,13 @@ abbrev pub headerFrom : ℕ → ℕ → ℕ → ℕ → List ℕ → ℕ → Hea
 headerFrom rate frames channels format name counter =
     record { rate = rate; frames = frames; channels = channels; format = format; name = name; counter = counter }
 
+-- the tally of a caller's counts
+abbrev pub tallyOf : List ℕ → Tally
+tallyOf counts = record { counts = counts }
+
 -- following, by the bytes and counts that the caller keeps
 abbrev pub followedFor : List ℕ → List ℕ → ℕ → List ℕ → List ℕ → Followed
-followedFor kept counts address d track = followOf (takeOf kept) (record { counts = counts }) address d track
+followedFor kept counts address d track = followOf (takeOf kept) (tallyOf counts) address d track
 
 abbrev pub laidFor : Followed → List ℕ
 laidFor f = f .place ∷ f .frames ∷ f .skipped ∷ []

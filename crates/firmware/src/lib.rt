@@ -6,12 +6,13 @@ ghost use Rattle.wire.specs.Rates.{rateOf};
 ghost use Rattle.wire.specs.Read.{readOf};
 ghost use Rattle.wire.specs.Write.{writeOf, outputOf};
 ghost use Rattle.take.specs.Take.{openOf, openedTrack};
-ghost use Rattle.take.specs.Tally.{cleared};
+ghost use Rattle.take.specs.Tally.{cleared, raisedOf};
 ghost use Rattle.take.specs.Follow.{followedTrack};
 ghost use Rattle.cutter.specs.Largest.{largestOf};
 ghost use Rattle.cutter.specs.Cut.{cutOf, cutOutput};
 ghost use Rattle.firmware.specs.Kept.{takeBytes, takeOf};
-ghost use Rattle.firmware.specs.Face.{fieldsOf, headerFrom, followedFor, laidFor, keptAfter, countFor};
+ghost use Rattle.firmware.specs.Face.{fieldsOf, headerFrom, tallyOf, followedFor, laidFor, keptAfter, countFor};
+use answers::Answer;
 use wire::header::Header;
 
 mod kept;
@@ -201,6 +202,17 @@ pub extern "C" fn tashmirok_open(
     answers::number(answer)
 }
 
+// One count raised where it stands, holding at the top.
+fn raise(tally: &mut [u32; 17], answer: Answer)
+    ensures { λ _. ⌜ now (tally .exit) ≡ raisedOf (tallyOf (now (tally .entry))) answer .counts ⌝ }
+{
+    let i = take::counts::count(answer);
+    let c = tally[i];
+    if c < 4294967295 {
+        tally[i] = c + 1;
+    }
+}
+
 // One datagram into the take; one count of the tally is raised.
 #[no_mangle]
 pub extern "C" fn tashmirok_follow(
@@ -217,12 +229,17 @@ pub extern "C" fn tashmirok_follow(
     ensures { λ _. ⌜ now (tally .exit) ≡ followedFor (now (kept .entry)) (now (tally .entry)) address (now (datagram .entry)) (now (track .entry)) .tally .counts ⌝ }
     ensures { λ _. ⌜ now (track .exit) ≡ followedTrack (takeOf (now (kept .entry))) address (now (datagram .entry)) (now (track .entry)) ⌝ }
 {
-    let counted = recorder::lent::follow_counts(kept::load(kept), *tally, address, datagram, track);
-    let counts = counted.counts;
-    *tally = counts;
-    let f = counted.answered;
-    *laid = [f.place as u64, f.frames as u64, f.skipped as u64];
+    // The tally that goes in is not the caller's, and what comes out is not used: the caller's is raised where it stands.
+    let f = recorder::follow(
+        kept::load(kept),
+        recorder::tally(),
+        address,
+        datagram,
+        track,
+    );
     let answer = f.answer;
+    raise(tally, answer);
+    *laid = [f.place as u64, f.frames as u64, f.skipped as u64];
     let number = answers::number(answer);
     if number == 0 {
         let take = f.take;

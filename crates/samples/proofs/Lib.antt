@@ -3,6 +3,7 @@ pub mod Places
 pub mod Signed
 pub mod Rounds
 pub mod Rescaled
+pub mod Parity
 pub mod Narrowing
 pub mod Formats
 pub mod Nearest

@@ -1,7 +1,7 @@
 -- Half a step less one and the parity added, the low bits dropped, no more than the highest: the definition's `narrowed`, on signed numbers.
 use mathlib.Core.Path.{_≡_, sym, ap, _∙_}
 use mathlib.Core.Bool.{true, false}
-use Prim.Native.Nat.{ℕ, _+_, _-_, _*_, _/_, _%_, _^_, min, _≤_, _<_}
+use Prim.Native.Nat.{ℕ, _+_, _-_, _*_, _/_, _%_, _^_, min, _≤_, _<_, zero-le}
 use native.Mathlib.Omega.{arith}
 use native.Mathlib.Decide.{decLt}
 use native.Mathlib.Nat.{div-add-mod', mod-lt, add-mul}
@@ -10,11 +10,11 @@ use lib.Pow.{pow-pos, pow-add, pow-mono, shr-le}
 use lib.IntN.{ℤ, pos, natAbs, subℕ, _+ℤ_, _-ℤ_}
 use lib.Signed.{mag, shrZ, ltZ}
 use borrow.Author.Tests.{lt-ltb, le-ltb, ltb-true, ltb-false}
-use mir.Syntax.{w32, w64}
-use mir.Val.{SFits}
+use mir.Syntax.{Width, w32, w64}
+use mir.Val.{SFits, toZ, ofZ}
 use mir.Facts.{toZ-ofZ}
 use Rattle.samples.specs.Convert.{rank, roundedOf, narrowed}
-use Rattle.samples.proofs.Machine.{Long, Int, back, wider}
+use Rattle.samples.proofs.Machine.{Long, Int, wider}
 use Rattle.samples.proofs.Places.{doubles, sub-le, sub-rank, rank-lt, sub-mag, plus, pos-minus}
 use Rattle.samples.proofs.Signed.{shifted, parity, less-is}
 
@@ -90,121 +90,166 @@ module _ (k v : ℕ) (hk : 1 ≤ k) (hv : 2 ≤ v) where
         let l : 2 ^ v - 1 ≤ rise = ltb-false _ _ (sym (less-is rise (2 ^ v - 1) (2 ^ (v - 1))) ∙ e) in
         ap (λ (x : ℕ). subℕ x (2 ^ (v - 1))) (omega (arith, sym narrowed-is))
 
--- ---- as the machine computes it
+-- ---- as a machine computes it, in words of w bits that hold every difference of numbers below R
+
+module _ (w : Width) (R : ℕ) (fit : (a b : ℕ) → a < R → b ≤ R → SFits w (subℕ a b)) where
+  abbrev Held : ℤ → ℤ
+  Held z = toZ w (ofZ w z)
+
+  held : (a b : ℕ) → a < R → b ≤ R → Held (subℕ a b) ≡ subℕ a b
+  held a b h l = toZ-ofZ (fit a b h l)
+
+  fits-pos : (a : ℕ) → a < R → SFits w (pos a)
+  fits-pos a h =
+      let e : subℕ a 0 ≡ pos a = sub-le a 0 zero-le ∙ ap pos (omega arith) in
+      rw (← e) (fit a 0 h zero-le)
+
+  held-pos : (a : ℕ) → a < R → Held (pos a) ≡ pos a
+  held-pos a h = toZ-ofZ (fits-pos a h)
+
+  -- n, and the powers and the parity as the callees give them
+  module _ (m n : ℤ) (k v : ℕ) (em : m ≡ n) (hk : 1 ≤ k) (hv : 2 ≤ v) (hn : mag n < 2 ^ (v + k - 1)) (room : 2 ^ (v + k - 1) * 4 ≤ R) (v-few : v ≤ 32) where
+    abbrev B : ℕ
+    B = 2 ^ (v + k - 1)
+
+    abbrev u : ℕ
+    u = rank B n
+
+    h-le : 2 ^ (k - 1) ≤ B
+    h-le = pow-mono {i = k - 1} {j = v + k - 1} (omega arith)
+
+    v-le : 2 ^ v ≤ B
+    v-le = pow-mono {i = v} {j = v + k - 1} (omega arith)
+
+    b-le : 2 ^ (v - 1) ≤ B
+    b-le = pow-mono {i = v - 1} {j = v + k - 1} (omega arith)
+
+    b-few : 2 ^ (v - 1) ≤ 2 ^ 31
+    b-few = pow-mono {i = v - 1} {j = 31} (omega arith)
+
+    u-lt : u < B + B
+    u-lt = rank-lt B n hn
+
+    number : m ≡ subℕ u B
+    number = em ∙ sym (sub-rank B n hn)
+
+    fits-narrow : (y : ℕ) → y < 2 ^ v → SFits w32 (subℕ y (2 ^ (v - 1)))
+    fits-narrow y h = record { sfits = sub-mag y (2 ^ (v - 1)) (2 ^ 31) (omega (arith, doubles v (omega arith), b-few)) b-few }
+
+    module _ (less : ℤ) (el : less ≡ pos (2 ^ (k - 1))) where
+      less-one : Held less -ℤ pos 1 ≡ pos (2 ^ (k - 1) - 1)
+      less-one =
+          rw (el, held-pos (2 ^ (k - 1)) (omega (arith, h-le, room, pow-pos (v + k - 1))))
+          (pos-minus (2 ^ (k - 1)) 1 ∙ sub-le (2 ^ (k - 1)) 1 (pow-pos (k - 1)))
+
+      pub fits-less : SFits w (Held less -ℤ pos 1)
+      fits-less = rw less-one (fits-pos (2 ^ (k - 1) - 1) (omega (arith, h-le, room, pow-pos (v + k - 1))))
+
+      abbrev x₀ : ℕ
+      x₀ = u + (2 ^ (k - 1) - 1)
+
+      half : m +ℤ Held (Held less -ℤ pos 1) ≡ subℕ x₀ B
+      half = rw (number, less-one, held-pos (2 ^ (k - 1) - 1) (omega (arith, h-le, room, pow-pos (v + k - 1)))) (plus u B (2 ^ (k - 1) - 1))
+
+      pub fits-half : SFits w (m +ℤ Held (Held less -ℤ pos 1))
+      fits-half = rw half (fit x₀ B (omega (arith, u-lt, h-le, room)) (omega (arith, room)))
+
+      module _ (odd : ℤ) (eo : odd ≡ pos (natAbs (Held (shrZ m (2 ^ k))) % 2)) where
+        parity-bit : odd ≡ pos (u / 2 ^ k % 2)
+        parity-bit =
+            eo
+            ∙ ap (λ (x : ℕ). pos x)
+            (rw (number, whole-is k v hk hv u, held (u / 2 ^ k) (2 ^ (v - 1)) (omega (arith, u-lt, shr-le u k, room)) (omega (arith, b-le, room)))
+            (parity (u / 2 ^ k) (2 ^ (v - 1)) (even k v hk hv)))
+
+        abbrev x : ℕ
+        x = x₀ + u / 2 ^ k % 2
+
+        abbrev Sum : ℤ
+        Sum = Held (m +ℤ Held (Held less -ℤ pos 1)) +ℤ Held odd
+
+        sum : Sum ≡ subℕ x B
+        sum =
+            rw (
+              half,
+              held x₀ B (omega (arith, u-lt, h-le, room)) (omega (arith, room)),
+              parity-bit,
+              held-pos (u / 2 ^ k % 2) (omega (arith, room, pow-pos (v + k - 1))),
+            )
+            (plus x₀ B (u / 2 ^ k % 2))
+
+        pub fits-sum : SFits w Sum
+        fits-sum = rw sum (fit x B (omega (arith, u-lt, h-le, room)) (omega (arith, room)))
+
+        abbrev X : ℤ
+        X = Held (shrZ (Held Sum) (2 ^ k))
+
+        abbrev y : ℕ
+        y = rise k v hk hv u
+
+        x-is : X ≡ subℕ y (2 ^ (v - 1))
+        x-is =
+            rw (sum, held x B (omega (arith, u-lt, h-le, room)) (omega (arith, room)), rise-is k v hk hv u)
+            (held y (2 ^ (v - 1)) (omega (arith, u-lt, h-le, room, shr-le x k)) (omega (arith, b-le, room)))
+
+        module _ (highest : ℤ) (eh : highest ≡ pos (2 ^ (v - 1))) where
+          pub fits-highest : SFits w (Held highest -ℤ pos 1)
+          fits-highest =
+              rw (eh, held-pos (2 ^ (v - 1)) (omega (arith, b-le, room, pow-pos (v + k - 1))), pos-minus (2 ^ (v - 1)) 1)
+              (fit (2 ^ (v - 1)) 1 (omega (arith, b-le, room, pow-pos (v + k - 1))) (omega (arith, room, pow-pos (v + k - 1))))
+
+          abbrev Top : ℤ
+          Top = Held (Held highest -ℤ pos 1)
+
+          is-top : Top ≡ subℕ (2 ^ v - 1) (2 ^ (v - 1))
+          is-top =
+              rw (eh, held-pos (2 ^ (v - 1)) (omega (arith, b-le, room, pow-pos (v + k - 1))), top-is k v hk hv u)
+              (held (2 ^ v - 1) (2 ^ (v - 1)) (omega (arith, v-le, room, pow-pos (v + k - 1))) (omega (arith, b-le, room)))
+
+          pub fits-below : ltZ X Top ≡ true → SFits w32 X
+          fits-below e =
+              let l : y < 2 ^ v - 1 = ltb-true _ _ (sym (less-is y (2 ^ v - 1) (2 ^ (v - 1))) ∙ (rw (x-is, is-top) at e)) in
+              rw x-is (fits-narrow y (omega arith))
+
+          pub below-is : ltZ X Top ≡ true → X ≡ subℕ (narrowed k v u) (2 ^ (v - 1))
+          below-is e = x-is ∙ below k v hk hv u (rw (x-is, is-top) at e)
+
+          pub is-below : ltZ X Top ≡ true → Int X ≡ subℕ (narrowed k v u) (2 ^ (v - 1))
+          is-below e = toZ-ofZ (fits-below e) ∙ below-is e
+
+          pub fits-above : SFits w32 Top
+          fits-above = rw is-top (fits-narrow (2 ^ v - 1) (omega (arith, pow-pos v)))
+
+          pub above-is : ltZ X Top ≡ false → Top ≡ subℕ (narrowed k v u) (2 ^ (v - 1))
+          above-is e = is-top ∙ above k v hk hv u (rw (x-is, is-top) at e)
+
+          pub is-above : ltZ X Top ≡ false → Int Top ≡ subℕ (narrowed k v u) (2 ^ (v - 1))
+          is-above e = toZ-ofZ fits-above ∙ above-is e
+
+-- ---- in 64 bits, for numbers of up to 32
 
 pub fits-long : (a b : ℕ) → a < 2 ^ 34 → b ≤ 2 ^ 34 → SFits w64 (subℕ a b)
 fits-long a b h l = record { sfits = sub-mag a b (2 ^ 63) (omega arith) (omega arith) }
 
-pub long : (a b : ℕ) → a < 2 ^ 34 → b ≤ 2 ^ 34 → Long (subℕ a b) ≡ subℕ a b
-long a b h l = toZ-ofZ (fits-long a b h l)
+pub held-long : (n : ℤ) → SFits w32 n → Long (Int n) ≡ n
+held-long n s = rw (toZ-ofZ s) (toZ-ofZ (wider s))
 
-pub long-pos : (a : ℕ) → a < 2 ^ 34 → Long (pos a) ≡ pos a
-long-pos a h = back (pos a) (omega arith)
+pub room-long : (k v : ℕ) → v + k ≤ 32 → 2 ^ (v + k - 1) * 4 ≤ 2 ^ 34
+room-long k v h = omega (arith, pow-mono {i = v + k - 1} {j = 31} (omega arith))
 
--- n, and the powers and the parity as the callees give them
-module _ (n : ℤ) (k v : ℕ) (s : SFits w32 n) (hk : 1 ≤ k) (hv : 2 ≤ v) (hs : v + k ≤ 32) (hn : mag n < 2 ^ (v + k - 1)) where
-  abbrev B : ℕ
-  B = 2 ^ (v + k - 1)
+pub few-long : (k v : ℕ) → v + k ≤ 32 → v ≤ 32
+few-long k v h = omega arith
 
-  abbrev u : ℕ
-  u = rank B n
+-- ---- in 32 bits, for numbers of up to 28
 
-  B-le : B ≤ 2 ^ 31
-  B-le = pow-mono {i = v + k - 1} {j = 31} (omega arith)
+pub fits-int : (a b : ℕ) → a < 2 ^ 30 → b ≤ 2 ^ 30 → SFits w32 (subℕ a b)
+fits-int a b h l = record { sfits = sub-mag a b (2 ^ 31) (omega arith) (omega arith) }
 
-  h-le : 2 ^ (k - 1) ≤ 2 ^ 31
-  h-le = pow-mono {i = k - 1} {j = 31} (omega arith)
+pub held-int : (n : ℤ) → SFits w32 n → Int n ≡ n
+held-int n s = toZ-ofZ s
 
-  b-le : 2 ^ (v - 1) ≤ 2 ^ 31
-  b-le = pow-mono {i = v - 1} {j = 31} (omega arith)
+pub room-int : (k v : ℕ) → v + k ≤ 28 → 2 ^ (v + k - 1) * 4 ≤ 2 ^ 30
+room-int k v h = omega (arith, pow-mono {i = v + k - 1} {j = 27} (omega arith))
 
-  v-le : 2 ^ v ≤ 2 ^ 32
-  v-le = pow-mono {i = v} {j = 32} (omega arith)
-
-  u-lt : u < 2 ^ 32
-  u-lt = omega (arith, rank-lt B n hn, B-le)
-
-  number : Long (Int n) ≡ subℕ u B
-  number = rw (toZ-ofZ s, toZ-ofZ (wider s)) (sym (sub-rank B n hn))
-
-  fits-narrow : (y : ℕ) → y < 2 ^ v → SFits w32 (subℕ y (2 ^ (v - 1)))
-  fits-narrow y h = record { sfits = sub-mag y (2 ^ (v - 1)) (2 ^ 31) (omega (arith, doubles v (omega arith), b-le)) b-le }
-
-  module _ (less : ℤ) (el : less ≡ pos (2 ^ (k - 1))) where
-    less-one : Long less -ℤ pos 1 ≡ pos (2 ^ (k - 1) - 1)
-    less-one =
-        rw (el, long-pos (2 ^ (k - 1)) (omega (arith, h-le)))
-        (pos-minus (2 ^ (k - 1)) 1 ∙ sub-le (2 ^ (k - 1)) 1 (pow-pos (k - 1)))
-
-    pub fits-less : SFits w64 (Long less -ℤ pos 1)
-    fits-less = rw less-one (record { sfits = omega (arith, h-le) })
-
-    abbrev w : ℕ
-    w = u + (2 ^ (k - 1) - 1)
-
-    half : Long (Int n) +ℤ Long (Long less -ℤ pos 1) ≡ subℕ w B
-    half = rw (number, less-one, long-pos (2 ^ (k - 1) - 1) (omega (arith, h-le))) (plus u B (2 ^ (k - 1) - 1))
-
-    pub fits-half : SFits w64 (Long (Int n) +ℤ Long (Long less -ℤ pos 1))
-    fits-half = rw half (fits-long w B (omega (arith, u-lt, h-le)) (omega (arith, B-le)))
-
-    module _ (odd : ℤ) (eo : odd ≡ pos (natAbs (Long (shrZ (Long (Int n)) (2 ^ k))) % 2)) where
-      parity-bit : odd ≡ pos (u / 2 ^ k % 2)
-      parity-bit =
-          eo
-          ∙ ap (λ (x : ℕ). pos x)
-          (rw (number, whole-is k v hk hv u, long (u / 2 ^ k) (2 ^ (v - 1)) (omega (arith, u-lt, shr-le u k)) (omega (arith, b-le)))
-          (parity (u / 2 ^ k) (2 ^ (v - 1)) (even k v hk hv)))
-
-      abbrev x : ℕ
-      x = w + u / 2 ^ k % 2
-
-      abbrev Sum : ℤ
-      Sum = Long (Long (Int n) +ℤ Long (Long less -ℤ pos 1)) +ℤ Long odd
-
-      sum : Sum ≡ subℕ x B
-      sum =
-          rw (half, long w B (omega (arith, u-lt, h-le)) (omega (arith, B-le)), parity-bit, long-pos (u / 2 ^ k % 2) (omega arith))
-          (plus w B (u / 2 ^ k % 2))
-
-      pub fits-sum : SFits w64 Sum
-      fits-sum = rw sum (fits-long x B (omega (arith, u-lt, h-le)) (omega (arith, B-le)))
-
-      abbrev X : ℤ
-      X = Long (shrZ (Long Sum) (2 ^ k))
-
-      abbrev y : ℕ
-      y = rise k v hk hv u
-
-      x-is : X ≡ subℕ y (2 ^ (v - 1))
-      x-is =
-          rw (sum, long x B (omega (arith, u-lt, h-le)) (omega (arith, B-le)), rise-is k v hk hv u)
-          (long y (2 ^ (v - 1)) (omega (arith, u-lt, h-le, shr-le x k)) (omega (arith, b-le)))
-
-      module _ (highest : ℤ) (eh : highest ≡ pos (2 ^ (v - 1))) where
-        pub fits-highest : SFits w64 (Long highest -ℤ pos 1)
-        fits-highest =
-            rw (eh, long-pos (2 ^ (v - 1)) (omega (arith, b-le)), pos-minus (2 ^ (v - 1)) 1)
-            (fits-long (2 ^ (v - 1)) 1 (omega (arith, b-le)) (omega arith))
-
-        abbrev Top : ℤ
-        Top = Long (Long highest -ℤ pos 1)
-
-        is-top : Top ≡ subℕ (2 ^ v - 1) (2 ^ (v - 1))
-        is-top =
-            rw (eh, long-pos (2 ^ (v - 1)) (omega (arith, b-le)), top-is k v hk hv u)
-            (long (2 ^ v - 1) (2 ^ (v - 1)) (omega (arith, v-le)) (omega (arith, b-le)))
-
-        pub fits-below : ltZ X Top ≡ true → SFits w32 X
-        fits-below e =
-            let l : y < 2 ^ v - 1 = ltb-true _ _ (sym (less-is y (2 ^ v - 1) (2 ^ (v - 1))) ∙ (rw (x-is, is-top) at e)) in
-            rw x-is (fits-narrow y (omega arith))
-
-        pub is-below : ltZ X Top ≡ true → Int X ≡ subℕ (narrowed k v u) (2 ^ (v - 1))
-        is-below e = toZ-ofZ (fits-below e) ∙ x-is ∙ below k v hk hv u (rw (x-is, is-top) at e)
-
-        pub fits-above : SFits w32 Top
-        fits-above = rw is-top (fits-narrow (2 ^ v - 1) (omega (arith, pow-pos v)))
-
-        pub is-above : ltZ X Top ≡ false → Int Top ≡ subℕ (narrowed k v u) (2 ^ (v - 1))
-        is-above e = toZ-ofZ fits-above ∙ is-top ∙ above k v hk hv u (rw (x-is, is-top) at e)
+pub few-int : (k v : ℕ) → v + k ≤ 28 → v ≤ 32
+few-int k v h = omega arith

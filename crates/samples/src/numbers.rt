@@ -21,6 +21,20 @@ fn odd(q: i64) -> i64
     if q % 2 == 0 { 0 } else { 1 }
 }
 
+// The same in 32 bits.
+fn power_small(k: u32) -> i32
+    requires { ⌜ k ≤ 28 ⌝ }
+    ensures { λ r. ⌜ r ≡ pos (2 ^ k) ⌝ }
+{
+    1 << k
+}
+
+fn odd_small(q: i32) -> i32
+    ensures { λ r. ⌜ r ≡ pos (natAbs q % 2) ⌝ }
+{
+    if q % 2 == 0 { 0 } else { 1 }
+}
+
 // A number of so many bits as one of `k` bits more: its value stays.
 pub fn widen(n: i32, k: u32) -> i32
     requires { ⌜ (k ≤ 32) × (mag (n *ℤ pos (2 ^ k)) < 2 ^ 31) ⌝ }
@@ -46,6 +60,17 @@ pub fn narrow(n: i32, k: u32, v: u32) -> i32
     }
 }
 
+// The same for a number of at most 28 bits, whose sums have room in 32: twice as many go into a vector of the machine's.
+pub fn narrow_small(n: i32, k: u32, v: u32) -> i32
+    requires { ⌜ (1 ≤ k) × (2 ≤ v) × (v + k ≤ 28) × (mag n < 2 ^ (v + k - 1)) ⌝ }
+    ensures { λ r. ⌜ r ≡ subℕ (narrowed k v (rank (2 ^ (v + k - 1)) n)) (2 ^ (v - 1)) ⌝ }
+{
+    let whole = n >> k;
+    let x = n + (power_small(k - 1) - 1) + odd_small(whole) >> k;
+    let highest = power_small(v - 1) - 1;
+    if x < highest { x } else { highest }
+}
+
 // A number of `w` bits as one of `v` bits.
 pub fn rescale(n: i32, w: u32, v: u32) -> i32
     requires { ⌜ (2 ≤ w) × (w ≤ 32) × (2 ≤ v) × (v ≤ 32) × (mag n < 2 ^ (w - 1)) ⌝ }
@@ -53,6 +78,9 @@ pub fn rescale(n: i32, w: u32, v: u32) -> i32
 {
     if w <= v {
         return widen(n, v - w);
+    }
+    if w <= 28 {
+        return narrow_small(n, w - v, v);
     }
     narrow(n, w - v, v)
 }
