@@ -9,5 +9,6 @@ pub mod Formats
 pub mod Nearest
 pub mod Converts
 pub mod Bits
+pub mod Aligned
 pub mod Moves
 pub mod Examples

@@ -11,12 +11,15 @@ use Rattle.samples.specs.Wire.{bitsOf}
 use Rattle.samples.proofs.Machine.{Int}
 use Rattle.samples.proofs.Bits.{bits-lt, rescaled-mag}
 
--- the widths of a byte and of a slot are widths
+-- the widths of a byte, of a slot and of 32 bits are widths
 abbrev pub bits8 : (2 ≤ 8) × (8 ≤ 32)
 bits8 = (lit≤ tt, lit≤ tt)
 
 abbrev pub bits24 : (2 ≤ 24) × (24 ≤ 32)
 bits24 = (lit≤ tt, lit≤ tt)
+
+abbrev pub bits32 : (2 ≤ 32) × (32 ≤ 32)
+bits32 = (lit≤ tt, lit≤ tt)
 
 int : (z : ℤ) → mag z < 2 ^ 31 → Int z ≡ z
 int z h = toZ-ofZ (record { sfits = h })

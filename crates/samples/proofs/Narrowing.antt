@@ -1,21 +1,23 @@
--- Half a step less one and the parity added, the low bits dropped, no more than the highest: the definition's `narrowed`, on signed numbers.
+-- Clipped, half a step less one and the parity added, the low bits dropped: the definition's `narrowed`, on signed numbers.
 use mathlib.Core.Path.{_≡_, sym, ap, _∙_}
-use mathlib.Core.Bool.{true, false}
-use Prim.Native.Nat.{ℕ, _+_, _-_, _*_, _/_, _%_, _^_, min, _≤_, _<_, zero-le}
+use Prim.Native.Nat.{ℕ, _+_, _-_, _*_, _/_, _%_, _^_, min, _≤_, _<_}
 use native.Mathlib.Omega.{arith}
 use native.Mathlib.Decide.{decLt}
 use native.Mathlib.Nat.{div-add-mod', mod-lt, add-mul}
 use lib.Arith.{digits-div}
-use lib.Pow.{pow-pos, pow-add, pow-mono, shr-le}
+use lib.Pow.{pow-pos, pow-add, pow-mono, shr-lt}
 use lib.IntN.{ℤ, pos, natAbs, subℕ, _+ℤ_, _-ℤ_}
 use lib.Signed.{mag, shrZ, ltZ}
-use borrow.Author.Tests.{lt-ltb, le-ltb, ltb-true, ltb-false}
-use mir.Syntax.{Width, w32, w64}
-use mir.Val.{SFits, toZ, ofZ}
+use lib.Dec.{ltb}
+use borrow.Author.Tests.{lt-ltb, le-ltb}
+use mir.Syntax.{w32}
+use mir.Val.{SFits}
 use mir.Facts.{toZ-ofZ}
+use Rattle.lists.specs.Tables.{choose}
 use Rattle.samples.specs.Convert.{rank, roundedOf, narrowed}
-use Rattle.samples.proofs.Machine.{Long, Int, wider}
+use Rattle.samples.proofs.Machine.{Int}
 use Rattle.samples.proofs.Places.{doubles, sub-le, sub-rank, rank-lt, sub-mag, plus, pos-minus}
+use Rattle.samples.proofs.Rescaled.{narrowed-lt}
 use Rattle.samples.proofs.Signed.{shifted, parity, less-is}
 
 -- ---- on places, over half a step h
@@ -74,182 +76,182 @@ module _ (k v : ℕ) (hk : 1 ≤ k) (hv : 2 ≤ v) where
     pub rise-is : shrZ (subℕ (u + (2 ^ (k - 1) - 1) + u / 2 ^ k % 2) (2 ^ (v + k - 1))) (2 ^ k) ≡ subℕ rise (2 ^ (v - 1))
     rise-is = rw wide (shifted (u + (2 ^ (k - 1) - 1) + u / 2 ^ k % 2) (2 ^ (v - 1)) (2 ^ k) (pow-pos k))
 
-    pub top-is : pos (2 ^ (v - 1)) -ℤ pos 1 ≡ subℕ (2 ^ v - 1) (2 ^ (v - 1))
-    top-is =
-        pos-minus (2 ^ (v - 1)) 1
-        ∙ sub-le (2 ^ (v - 1)) 1 (pow-pos (v - 1))
-        ∙ sym (sub-le (2 ^ v - 1) (2 ^ (v - 1)) (omega (arith, doubles v (omega arith), pow-pos (v - 1))) ∙ ap pos (omega (arith, doubles v (omega arith))))
+-- ---- clipped first
 
-    pub below : ltZ (subℕ rise (2 ^ (v - 1))) (subℕ (2 ^ v - 1) (2 ^ (v - 1))) ≡ true → subℕ rise (2 ^ (v - 1)) ≡ subℕ (narrowed k v u) (2 ^ (v - 1))
-    below e =
-        let l : rise < 2 ^ v - 1 = ltb-true _ _ (sym (less-is rise (2 ^ v - 1) (2 ^ (v - 1))) ∙ e) in
-        ap (λ (x : ℕ). subℕ x (2 ^ (v - 1))) (omega (arith, sym narrowed-is))
+-- h is half a step, q the last place of the narrower type; past `end` a place would be rounded past q
+module _ (k v : ℕ) (hk : 1 ≤ k) (hv : 2 ≤ v) where
+  abbrev B : ℕ
+  B = 2 ^ (v + k - 1)
 
-    pub above : ltZ (subℕ rise (2 ^ (v - 1))) (subℕ (2 ^ v - 1) (2 ^ (v - 1))) ≡ false → subℕ (2 ^ v - 1) (2 ^ (v - 1)) ≡ subℕ (narrowed k v u) (2 ^ (v - 1))
-    above e =
-        let l : 2 ^ v - 1 ≤ rise = ltb-false _ _ (sym (less-is rise (2 ^ v - 1) (2 ^ (v - 1))) ∙ e) in
-        ap (λ (x : ℕ). subℕ x (2 ^ (v - 1))) (omega (arith, sym narrowed-is))
+  abbrev h : ℕ
+  h = 2 ^ (k - 1)
 
--- ---- as a machine computes it, in words of w bits that hold every difference of numbers below R
+  abbrev P : ℕ
+  P = 2 ^ k
 
-module _ (w : Width) (R : ℕ) (fit : (a b : ℕ) → a < R → b ≤ R → SFits w (subℕ a b)) where
-  abbrev Held : ℤ → ℤ
-  Held z = toZ w (ofZ w z)
+  abbrev q : ℕ
+  q = 2 ^ v - 1
 
-  held : (a b : ℕ) → a < R → b ≤ R → Held (subℕ a b) ≡ subℕ a b
-  held a b h l = toZ-ofZ (fit a b h l)
+  abbrev pub end : ℕ
+  end = B + (B - h - 1)
 
-  fits-pos : (a : ℕ) → a < R → SFits w (pos a)
-  fits-pos a h =
-      let e : subℕ a 0 ≡ pos a = sub-le a 0 zero-le ∙ ap pos (omega arith) in
-      rw (← e) (fit a 0 h zero-le)
+  two-halves : P ≡ h + h
+  two-halves = doubles k hk
 
-  held-pos : (a : ℕ) → a < R → Held (pos a) ≡ pos a
-  held-pos a h = toZ-ofZ (fits-pos a h)
+  room : h + h ≤ B
+  room = rw (← two-halves) (pow-mono {i = k} {j = v + k - 1} (omega arith))
 
-  -- n, and the powers and the parity as the callees give them
-  module _ (m n : ℤ) (k v : ℕ) (em : m ≡ n) (hk : 1 ≤ k) (hv : 2 ≤ v) (hn : mag n < 2 ^ (v + k - 1)) (room : 2 ^ (v + k - 1) * 4 ≤ R) (v-few : v ≤ 32) where
-    abbrev B : ℕ
-    B = 2 ^ (v + k - 1)
+  some : 0 < h
+  some = pow-pos (k - 1)
 
-    abbrev u : ℕ
-    u = rank B n
+  all-places : q * P + P ≡ B + B
+  all-places =
+      let e : q + 1 ≡ 2 ^ v = omega (arith, pow-pos v) in
+      omega (arith, add-mul q 1 P, ap (λ (x : ℕ). x * P) e, pow-add 2 v k, doubles (v + k) (omega arith))
 
-    h-le : 2 ^ (k - 1) ≤ B
-    h-le = pow-mono {i = k - 1} {j = v + k - 1} (omega arith)
+  q-odd : q % 2 ≡ 1
+  q-odd = omega (arith, doubles v (omega arith), pow-pos (v - 1))
 
-    v-le : 2 ^ v ≤ B
-    v-le = pow-mono {i = v} {j = v + k - 1} (omega arith)
+  -- from the last place on, the quotient and its parity
+  module _ (u : ℕ) (l : end ≤ u) (g : u < B + B) where
+    rest : u ≡ q * P + (u - q * P)
+    rest = omega (arith, all-places, two-halves, room, some)
 
-    b-le : 2 ^ (v - 1) ≤ B
-    b-le = pow-mono {i = v - 1} {j = v + k - 1} (omega arith)
+    last-quotient : u / P ≡ q
+    last-quotient = ap (λ (x : ℕ). x / P) rest ∙ digits-div q (omega (arith, all-places, rest))
 
-    b-few : 2 ^ (v - 1) ≤ 2 ^ 31
-    b-few = pow-mono {i = v - 1} {j = 31} (omega arith)
+    no-less : q ≤ rise k v hk hv u
+    no-less =
+        let r = u - q * P + (h - 1) + q % 2 in
+        let e : u + (h - 1) + q % 2 ≡ q * P + r = omega (arith, rest) in
+        rw (last-quotient, e) (elim (decLt r P) [
+          | yes a ↦ rw (digits-div q a) (omega arith)
+          | no a ↦
+              (let d : r - P < P = omega (arith, q-odd, all-places, two-halves, some) in
+              let f : q * P + r ≡ (q + 1) * P + (r - P) = omega (arith, add-mul q 1 P) in
+              rw (f, digits-div (q + 1) d) (omega arith))
+        ])
 
-    u-lt : u < B + B
-    u-lt = rank-lt B n hn
+  end-rise : rise k v hk hv end ≡ q
+  end-rise =
+      let l : end < B + B = omega (arith, some, room) in
+      let e : end + (h - 1) + q % 2 ≡ q * P + (h + h - 1) = omega (arith, q-odd, all-places, two-halves, some, room) in
+      rw (last-quotient end (omega arith) l, e) (digits-div q (omega (arith, two-halves, some)))
 
-    number : m ≡ subℕ u B
-    number = em ∙ sym (sub-rank B n hn)
+  -- what the code computes of the lesser of a place and the last
+  pub clipped : (u : ℕ) → u < B + B → rise k v hk hv (min u end) ≡ narrowed k v u
+  clipped u g = elim (decLt u end) [
+    | yes l ↦
+        (let e : min u end ≡ u = omega arith in
+        let n : u + (h - 1) + u / P % 2 < 2 ^ (v + k) = omega (arith, doubles (v + k) (omega arith), some, room) in
+        rw (e, narrowed-is k v hk hv u) (omega (arith, shr-lt {n = u + (h - 1) + u / P % 2} v k n)))
+    | no l ↦
+        (let e : min u end ≡ end = omega arith in
+        rw (e, end-rise, narrowed-is k v hk hv u) (omega (arith, no-less u (omega arith) g)))
+  ]
 
-    fits-narrow : (y : ℕ) → y < 2 ^ v → SFits w32 (subℕ y (2 ^ (v - 1)))
-    fits-narrow y h = record { sfits = sub-mag y (2 ^ (v - 1)) (2 ^ 31) (omega (arith, doubles v (omega arith), b-few)) b-few }
+-- ---- as the machine computes it, in 32 bits
 
-    module _ (less : ℤ) (el : less ≡ pos (2 ^ (k - 1))) where
-      less-one : Held less -ℤ pos 1 ≡ pos (2 ^ (k - 1) - 1)
-      less-one =
-          rw (el, held-pos (2 ^ (k - 1)) (omega (arith, h-le, room, pow-pos (v + k - 1))))
-          (pos-minus (2 ^ (k - 1)) 1 ∙ sub-le (2 ^ (k - 1)) 1 (pow-pos (k - 1)))
+module _ (n : ℤ) (k v : ℕ) (s : SFits w32 n) (pre : (1 ≤ k) × (2 ≤ v) × (v + k ≤ 32) × (mag n < 2 ^ (v + k - 1))) where
+  abbrev B′ : ℕ
+  B′ = 2 ^ (v + k - 1)
 
-      pub fits-less : SFits w (Held less -ℤ pos 1)
-      fits-less = rw less-one (fits-pos (2 ^ (k - 1) - 1) (omega (arith, h-le, room, pow-pos (v + k - 1))))
+  abbrev h′ : ℕ
+  h′ = 2 ^ (k - 1)
 
-      abbrev x₀ : ℕ
-      x₀ = u + (2 ^ (k - 1) - 1)
+  abbrev u : ℕ
+  u = rank B′ n
 
-      half : m +ℤ Held (Held less -ℤ pos 1) ≡ subℕ x₀ B
-      half = rw (number, less-one, held-pos (2 ^ (k - 1) - 1) (omega (arith, h-le, room, pow-pos (v + k - 1)))) (plus u B (2 ^ (k - 1) - 1))
+  abbrev last : ℕ
+  last = end k v (pre .0) (pre .1)
 
-      pub fits-half : SFits w (m +ℤ Held (Held less -ℤ pos 1))
-      fits-half = rw half (fit x₀ B (omega (arith, u-lt, h-le, room)) (omega (arith, room)))
+  -- the place that is rounded
+  abbrev x : ℕ
+  x = min u last
 
-      module _ (odd : ℤ) (eo : odd ≡ pos (natAbs (Held (shrZ m (2 ^ k))) % 2)) where
-        parity-bit : odd ≡ pos (u / 2 ^ k % 2)
-        parity-bit =
-            eo
-            ∙ ap (λ (x : ℕ). pos x)
-            (rw (number, whole-is k v hk hv u, held (u / 2 ^ k) (2 ^ (v - 1)) (omega (arith, u-lt, shr-le u k, room)) (omega (arith, b-le, room)))
-            (parity (u / 2 ^ k) (2 ^ (v - 1)) (even k v hk hv)))
+  few : B′ ≤ 2 ^ 31
+  few = pow-mono {i = v + k - 1} {j = 31} (omega arith)
 
-        abbrev x : ℕ
-        x = x₀ + u / 2 ^ k % 2
+  halves : h′ + h′ ≤ B′
+  halves = room k v (pre .0) (pre .1)
+
+  half-some : 0 < h′
+  half-some = some k v (pre .0) (pre .1)
+
+  fit : (y : ℕ) → y < B′ + B′ → SFits w32 (subℕ y B′)
+  fit y l = record { sfits = sub-mag y B′ (2 ^ 31) (omega (arith, few)) few }
+
+  held : (y : ℕ) → y < B′ + B′ → Int (subℕ y B′) ≡ subℕ y B′
+  held y l = toZ-ofZ (fit y l)
+
+  held-pos : (y : ℕ) → y < B′ → Int (pos y) ≡ pos y
+  held-pos y l = toZ-ofZ {w = w32} (record { sfits = omega (arith, few) })
+
+  narrow-held : (y : ℕ) → y < 2 ^ v → Int (subℕ y (2 ^ (v - 1))) ≡ subℕ y (2 ^ (v - 1))
+  narrow-held y l =
+      let b : 2 ^ (v - 1) ≤ 2 ^ 31 = pow-mono {i = v - 1} {j = 31} (omega arith) in
+      toZ-ofZ {w = w32} (record { sfits = sub-mag y (2 ^ (v - 1)) (2 ^ 31) (omega (arith, doubles v (omega arith), b)) b })
+
+  number : Int n ≡ subℕ u B′
+  number = toZ-ofZ s ∙ sym (sub-rank B′ n (pre .3))
+
+  module _ (p : ℤ) (ep : p ≡ pos h′) where
+    less-one : Int p -ℤ pos 1 ≡ pos (h′ - 1)
+    less-one = rw (ep, held-pos h′ (omega (arith, halves, half-some))) (pos-minus h′ 1 ∙ sub-le h′ 1 half-some)
+
+    pub fits-half : SFits w32 (Int p -ℤ pos 1)
+    fits-half = rw less-one (record { sfits = omega (arith, few, halves) })
+
+  module _ (z : ℤ) (ez : z ≡ pos (B′ - h′ - 1)) (m : ℤ) (em : m ≡ choose (ltZ (Int n) (Int z)) (Int n) (Int z)) where
+    last-is : Int z ≡ subℕ last B′
+    last-is =
+        rw (ez, held-pos (B′ - h′ - 1) (omega (arith, halves, half-some)))
+        (sym (sub-le last B′ (omega arith) ∙ ap pos (omega arith)))
+
+    lesser-is : choose (ltb u last) (subℕ u B′) (subℕ last B′) ≡ subℕ x B′
+    lesser-is = elim (decLt u last) [
+      | yes l ↦ rw (lt-ltb u last l) (ap (λ (y : ℕ). subℕ y B′) (omega arith))
+      | no l ↦ rw (le-ltb u last (omega arith)) (ap (λ (y : ℕ). subℕ y B′) (omega arith))
+    ]
+
+    place : m ≡ subℕ x B′
+    place = em ∙ rw (number, last-is, less-is u last B′) lesser-is
+
+    lent : Int m ≡ subℕ x B′
+    lent = rw place (held x (omega (arith, half-some, halves)))
+
+    module _ (p : ℤ) (ep : p ≡ pos h′) where
+      half : Int m +ℤ Int (Int p -ℤ pos 1) ≡ subℕ (x + (h′ - 1)) B′
+      half = rw (lent, less-one p ep, held-pos (h′ - 1) (omega (arith, halves, half-some))) (plus x B′ (h′ - 1))
+
+      pub fits-sum : SFits w32 (Int m +ℤ Int (Int p -ℤ pos 1))
+      fits-sum = rw half (fit (x + (h′ - 1)) (omega (arith, half-some, halves)))
+
+      module _ (o : ℤ) (eo : o ≡ pos (natAbs (Int (shrZ (Int m) (2 ^ k))) % 2)) where
+        whole : Int (shrZ (Int m) (2 ^ k)) ≡ subℕ (x / 2 ^ k) (2 ^ (v - 1))
+        whole = rw (lent, whole-is k v (pre .0) (pre .1) x) (narrow-held (x / 2 ^ k) (shr-lt {n = x} v k (omega (arith, doubles (v + k) (omega arith), half-some, halves))))
+
+        parity-bit : o ≡ pos (x / 2 ^ k % 2)
+        parity-bit = eo ∙ ap pos (rw whole (parity (x / 2 ^ k) (2 ^ (v - 1)) (even k v (pre .0) (pre .1))))
 
         abbrev Sum : ℤ
-        Sum = Held (m +ℤ Held (Held less -ℤ pos 1)) +ℤ Held odd
-
-        sum : Sum ≡ subℕ x B
-        sum =
-            rw (
-              half,
-              held x₀ B (omega (arith, u-lt, h-le, room)) (omega (arith, room)),
-              parity-bit,
-              held-pos (u / 2 ^ k % 2) (omega (arith, room, pow-pos (v + k - 1))),
-            )
-            (plus x₀ B (u / 2 ^ k % 2))
-
-        pub fits-sum : SFits w Sum
-        fits-sum = rw sum (fit x B (omega (arith, u-lt, h-le, room)) (omega (arith, room)))
-
-        abbrev X : ℤ
-        X = Held (shrZ (Held Sum) (2 ^ k))
+        Sum = Int (Int m +ℤ Int (Int p -ℤ pos 1)) +ℤ Int o
 
         abbrev y : ℕ
-        y = rise k v hk hv u
+        y = x + (h′ - 1) + x / 2 ^ k % 2
 
-        x-is : X ≡ subℕ y (2 ^ (v - 1))
-        x-is =
-            rw (sum, held x B (omega (arith, u-lt, h-le, room)) (omega (arith, room)), rise-is k v hk hv u)
-            (held y (2 ^ (v - 1)) (omega (arith, u-lt, h-le, room, shr-le x k)) (omega (arith, b-le, room)))
+        y-lt : y < B′ + B′
+        y-lt = omega (arith, half-some, halves)
 
-        module _ (highest : ℤ) (eh : highest ≡ pos (2 ^ (v - 1))) where
-          pub fits-highest : SFits w (Held highest -ℤ pos 1)
-          fits-highest =
-              rw (eh, held-pos (2 ^ (v - 1)) (omega (arith, b-le, room, pow-pos (v + k - 1))), pos-minus (2 ^ (v - 1)) 1)
-              (fit (2 ^ (v - 1)) 1 (omega (arith, b-le, room, pow-pos (v + k - 1))) (omega (arith, room, pow-pos (v + k - 1))))
+        sum : Sum ≡ subℕ y B′
+        sum =
+            rw (half, held (x + (h′ - 1)) (omega (arith, half-some, halves)), parity-bit, held-pos (x / 2 ^ k % 2) (omega (arith, half-some, halves)))
+            (plus (x + (h′ - 1)) B′ (x / 2 ^ k % 2))
 
-          abbrev Top : ℤ
-          Top = Held (Held highest -ℤ pos 1)
+        pub fits-all : SFits w32 Sum
+        fits-all = rw sum (fit y y-lt)
 
-          is-top : Top ≡ subℕ (2 ^ v - 1) (2 ^ (v - 1))
-          is-top =
-              rw (eh, held-pos (2 ^ (v - 1)) (omega (arith, b-le, room, pow-pos (v + k - 1))), top-is k v hk hv u)
-              (held (2 ^ v - 1) (2 ^ (v - 1)) (omega (arith, v-le, room, pow-pos (v + k - 1))) (omega (arith, b-le, room)))
-
-          pub fits-below : ltZ X Top ≡ true → SFits w32 X
-          fits-below e =
-              let l : y < 2 ^ v - 1 = ltb-true _ _ (sym (less-is y (2 ^ v - 1) (2 ^ (v - 1))) ∙ (rw (x-is, is-top) at e)) in
-              rw x-is (fits-narrow y (omega arith))
-
-          pub below-is : ltZ X Top ≡ true → X ≡ subℕ (narrowed k v u) (2 ^ (v - 1))
-          below-is e = x-is ∙ below k v hk hv u (rw (x-is, is-top) at e)
-
-          pub is-below : ltZ X Top ≡ true → Int X ≡ subℕ (narrowed k v u) (2 ^ (v - 1))
-          is-below e = toZ-ofZ (fits-below e) ∙ below-is e
-
-          pub fits-above : SFits w32 Top
-          fits-above = rw is-top (fits-narrow (2 ^ v - 1) (omega (arith, pow-pos v)))
-
-          pub above-is : ltZ X Top ≡ false → Top ≡ subℕ (narrowed k v u) (2 ^ (v - 1))
-          above-is e = is-top ∙ above k v hk hv u (rw (x-is, is-top) at e)
-
-          pub is-above : ltZ X Top ≡ false → Int Top ≡ subℕ (narrowed k v u) (2 ^ (v - 1))
-          is-above e = toZ-ofZ fits-above ∙ above-is e
-
--- ---- in 64 bits, for numbers of up to 32
-
-pub fits-long : (a b : ℕ) → a < 2 ^ 34 → b ≤ 2 ^ 34 → SFits w64 (subℕ a b)
-fits-long a b h l = record { sfits = sub-mag a b (2 ^ 63) (omega arith) (omega arith) }
-
-pub held-long : (n : ℤ) → SFits w32 n → Long (Int n) ≡ n
-held-long n s = rw (toZ-ofZ s) (toZ-ofZ (wider s))
-
-pub room-long : (k v : ℕ) → v + k ≤ 32 → 2 ^ (v + k - 1) * 4 ≤ 2 ^ 34
-room-long k v h = omega (arith, pow-mono {i = v + k - 1} {j = 31} (omega arith))
-
-pub few-long : (k v : ℕ) → v + k ≤ 32 → v ≤ 32
-few-long k v h = omega arith
-
--- ---- in 32 bits, for numbers of up to 28
-
-pub fits-int : (a b : ℕ) → a < 2 ^ 30 → b ≤ 2 ^ 30 → SFits w32 (subℕ a b)
-fits-int a b h l = record { sfits = sub-mag a b (2 ^ 31) (omega arith) (omega arith) }
-
-pub held-int : (n : ℤ) → SFits w32 n → Int n ≡ n
-held-int n s = toZ-ofZ s
-
-pub room-int : (k v : ℕ) → v + k ≤ 28 → 2 ^ (v + k - 1) * 4 ≤ 2 ^ 30
-room-int k v h = omega (arith, pow-mono {i = v + k - 1} {j = 27} (omega arith))
-
-pub few-int : (k v : ℕ) → v + k ≤ 28 → v ≤ 32
-few-int k v h = omega arith
+        pub is-narrowed : Int (shrZ (Int Sum) (2 ^ k)) ≡ subℕ (narrowed k v u) (2 ^ (v - 1))
+        is-narrowed =
+            rw (sum, held y y-lt, rise-is k v (pre .0) (pre .1) x, clipped k v (pre .0) (pre .1) u (rank-lt B′ n (pre .3)))
+            (narrow-held (narrowed k v u) (narrowed-lt k v u))

@@ -42,18 +42,19 @@ pub fn from_signed32(u: u32) -> u32
     moved(u, 32, 24)
 }
 
+// A slot is narrowed from the top of 32 bits, where its sign stands already.
 pub fn to_unsigned8(s: u32) -> u32
     requires { ⌜ s < 2 ^ 24 ⌝ }
     ensures { λ r. ⌜ (r ≡ sentOf Unsigned8 s) × (r < 2 ^ 8) ⌝ }
 {
-    (numbers::rescale(numbers::signed(s, 24), 24, 8) + 128) as u32
+    (numbers::rescale(numbers::signed(s * 256, 32), 32, 8) + 128) as u32
 }
 
 pub fn to_signed16(s: u32) -> u32
     requires { ⌜ s < 2 ^ 24 ⌝ }
     ensures { λ r. ⌜ (r ≡ sentOf Signed16 s) × (r < 2 ^ 16) ⌝ }
 {
-    moved(s, 24, 16)
+    moved(s * 256, 32, 16)
 }
 
 pub fn to_signed24(s: u32) -> u32

@@ -16,7 +16,6 @@ use Rattle.samples.specs.Convert.{biasOf, rank, placeOf, rescaled, conve
 use Rattle.samples.proofs.Machine.{Long, Int, wider, wider-int}
 use Rattle.samples.proofs.Places.{doubles, rank-sub, sub-mag}
 use Rattle.samples.proofs.Formats.{width-le, width-ge, middle-is, place-lt, place-back, centred, uncentred}
-use Rattle.samples.proofs.Narrowing.{fits-long}
 use Rattle.samples.proofs.Rescaled.{rescaled-lt}
 use Rattle.samples.proofs.between.Statement.{statement}
 use Rattle.samples.proofs.between.Tie as tie
@@ -81,7 +80,7 @@ module _ (f : Format) (n : ℤ) (m : ℕ) (s : SFits w64 n) (h : has f n ≡ tru
       fits-there =
           let y = rescaled (widthOf f) (widthOf t) u in
           let l : y < 2 ^ widthOf t = rescaled-lt (widthOf f) (widthOf t) u (place-lt f n h) in
-          fits-long y (biasOf t) (omega (arith, pow-mono (width-le t))) (omega (arith, middle-is t, half-le t))
+          record { sfits = sub-mag y (biasOf t) (2 ^ 63) (omega (arith, pow-mono (width-le t))) (omega (arith, middle-is t, half-le t)) }
 
       fits-sum : SFits w64 (Long (Int r) +ℤ toZ w64 k)
       fits-sum = rw is-there fits-there

@@ -45,9 +45,6 @@ module _ (n : ℤ) (w v : ℕ) (s : SFits w32 n) (h : (2 ≤ w) × (w ≤ 32) ×
     widened r f e = toZ-ofZ f ∙ e ∙ rw (toZ-ofZ s, product, le-leb w v g)
 
   module _ (g : v < w) where
-    room-small : w ≤ 28 → (1 ≤ w - v) × (2 ≤ v) × (v + (w - v) ≤ 28) × (mag (Int n) < 2 ^ (v + (w - v) - 1))
-    room-small l = let e : v + (w - v) - 1 ≡ w - 1 = omega arith in (omega arith, omega arith, omega arith, rw (toZ-ofZ s, e) (h .4))
-
     room-narrow : (1 ≤ w - v) × (2 ≤ v) × (v + (w - v) ≤ 32) × (mag (Int n) < 2 ^ (v + (w - v) - 1))
     room-narrow = let e : v + (w - v) - 1 ≡ w - 1 = omega arith in (omega arith, omega arith, omega arith, rw (toZ-ofZ s, e) (h .4))
 
@@ -62,12 +59,7 @@ rescale-spec =
     (λ c κs. room _ _ _ (c .before .fits .n) (c .before .pre) (c .if1 .taken))
     (λ c. widened _ _ _ (c .before .before .fits .n) (c .before .before .pre) (c .before .if1 .taken) _ (record { sfits = c .widen .ok }) (c .widen .ensures))
     (λ c. search needs)
-    (λ c κs. room-small _ _ _ (c .before .before .fits .n) (c .before .before .pre) (c .before .if1 .left) (c .if2 .taken))
+    (λ c κs. room-narrow _ _ _ (c .before .fits .n) (c .before .pre) (c .if1 .left))
     (λ c.
-    is-narrowed _ _ _ (c .before .before .before .fits .n) (c .before .before .before .pre) (c .before .before .if1 .left) _ (record { sfits = c .narrow-small .ok })
-    (c .narrow-small .ensures))
-    (λ c. search needs)
-    (λ c κs. room-narrow _ _ _ (c .before .before .fits .n) (c .before .before .pre) (c .before .if1 .left))
-    (λ c.
-    is-narrowed _ _ _ (c .before .before .before .fits .n) (c .before .before .before .pre) (c .before .before .if1 .left) _ (record { sfits = c .narrow .ok })
+    is-narrowed _ _ _ (c .before .before .fits .n) (c .before .before .pre) (c .before .if1 .left) _ (record { sfits = c .narrow .ok })
     (c .narrow .ensures)))

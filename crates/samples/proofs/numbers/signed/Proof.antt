@@ -1,74 +1,102 @@
--- Below half as it is, from half on less the whole range.
-use mathlib.Core.Path.{_≡_, sym, _∙_}
-use mathlib.Core.Bool.{true, false}
-use Prim.Native.Nat.{ℕ, _-_, _^_, _≤_, _<_}
+-- With half the numbers added, the rest by all of them is the number's place.
+use mathlib.Core.Path.{_≡_, ap, _∙_}
+use Prim.Native.Nat.{ℕ, _+_, _-_, _*_, _%_, _^_, _≤_, _<_}
+use native.Mathlib.Nat.{mod-lt, mod-eq-of-lt, add-mod-right}
 use native.Mathlib.Omega.{arith}
-use lib.Dec.{ltb}
-use lib.IntN.{ℤ, pos, subℕ, _-ℤ_}
-use lib.Pow.{pow-mono}
-use lib.Signed.{ltZ}
+use native.Mathlib.Decide.{decLt}
+use lib.Dec.{T}
+use lib.IntN.{ℤ, pos, negsuc, natAbs, subℕ, _-ℤ_}
+use lib.Pow.{pow-pos, pow-mono}
+use lib.Signed.{nonNeg}
 use mir.Syntax.{w32, w64}
-use mir.Val.{SFits, toZ}
+use mir.Val.{Fits, SFits, toZ}
 use mir.Facts.{toZ-ofZ, toZ-pos}
 use borrow.Author.Needs.{needs}
-use borrow.Author.Tests.{ltb-true, ltb-false}
+use borrow.Author.Tests.{lt-ltb, le-ltb}
 use Rattle.samples.specs.Wire.{signedOf}
 use Rattle.samples.proofs.Machine.{Long, Int, back, wider}
-use Rattle.samples.proofs.Places.{doubles, sub-lt, pos-minus}
+use Rattle.samples.proofs.Places.{doubles, sub-le, sub-lt, sub-mag, pos-minus}
 use Rattle.samples.proofs.numbers.signed.Statement.{statement}
 use Rattle.samples.proofs.numbers.signed.Tie as tie
 
-module _ (u w : ℕ) (h : (1 ≤ w) × (w ≤ 32) × (u < 2 ^ w)) where
-  w-le : 2 ^ w ≤ 2 ^ 32
-  w-le = pow-mono {i = w} {j = 32} (h .1)
+module _ (u w : ℕ) (h : (1 ≤ w) × (w ≤ 32) × (u < 2 ^ w)) (p : ℤ) (e : p ≡ pos (2 ^ (w - 1))) where
+  abbrev H : ℕ
+  H = 2 ^ (w - 1)
 
-  half-le : 2 ^ (w - 1) ≤ 2 ^ 31
-  half-le = pow-mono {i = w - 1} {j = 31} (omega arith)
+  few : H ≤ 2 ^ 31
+  few = pow-mono {i = w - 1} {j = 31} (omega arith)
 
-  number : toZ w64 u ≡ pos u
-  number = toZ-pos w64 {n = u} (omega (arith, h .2, w-le))
+  some : 0 < H
+  some = pow-pos (w - 1)
 
-  module _ (p : ℤ) (e : p ≡ pos (2 ^ (w - 1))) where
-    test : ltZ (toZ w64 u) (Long p) ≡ ltb u (2 ^ (w - 1))
-    test = rw (number, e, back (pos (2 ^ (w - 1))) (omega (arith, half-le)))
+  below : u < H + H
+  below = omega (arith, h .2, doubles w (h .0))
 
-    module _ (t : ltZ (toZ w64 u) (Long p) ≡ true) where
-      fits-low : SFits w32 (toZ w64 u)
-      fits-low = let l : u < 2 ^ (w - 1) = ltb-true _ _ (sym test ∙ t) in rw number (record { sfits = omega (arith, half-le) })
+  half : Long p ≡ pos H
+  half = rw (e, back (pos H) (omega (arith, few)))
 
-      low : Int (toZ w64 u) ≡ signedOf w u
-      unfolding signedOf
-      low = toZ-ofZ fits-low ∙ number ∙ rw (sym test ∙ t)
+  whole-half : T (nonNeg (Long p)) × Fits w64 (natAbs (Long p))
+  whole-half = rw half (tt, record { fits = omega (arith, few) })
 
-    module _ (t : ltZ (toZ w64 u) (Long p) ≡ false) (q : ℤ) (f : q ≡ pos (2 ^ w)) where
-      less : toZ w64 u -ℤ Long q ≡ subℕ u (2 ^ w)
-      less = rw (number, f, back (pos (2 ^ w)) (omega (arith, w-le))) (pos-minus u (2 ^ w))
+  fits-sum : Fits w64 (u + natAbs (Long p))
+  fits-sum = rw half (record { fits = omega (arith, few, below) })
 
-      fits-less : SFits w32 (subℕ u (2 ^ w))
-      fits-less =
-          let l : 2 ^ (w - 1) ≤ u = ltb-false _ _ (sym test ∙ t) in
-          rw (sub-lt u (2 ^ w) (h .2)) (record { sfits = omega (arith, doubles w (h .0), half-le) })
+  fits-all : Fits w64 (natAbs (Long p) * 2)
+  fits-all = rw half (record { fits = omega (arith, few) })
 
-      fits-sub : SFits w64 (toZ w64 u -ℤ Long q)
-      fits-sub = rw less (wider fits-less)
+  above : 0 < natAbs (Long p) * 2
+  above = rw half (omega (arith, some))
 
-      fits-high : SFits w32 (Long (toZ w64 u -ℤ Long q))
-      fits-high = rw (less, toZ-ofZ (wider fits-less)) fits-less
+  abbrev x : ℕ
+  x = (u + H) % (H * 2)
 
-      high : Int (Long (toZ w64 u -ℤ Long q)) ≡ signedOf w u
-      unfolding signedOf
-      high = rw (less, toZ-ofZ (wider fits-less), toZ-ofZ fits-less, sym test ∙ t)
+  x-lt : x < H + H
+  x-lt = let l : x < H * 2 = mod-lt (u + H) (omega (arith, some)) in omega arith
+
+  rest : (u + natAbs (Long p)) % (natAbs (Long p) * 2) ≡ x
+  rest = rw half
+
+  fits-rest : SFits w64 (pos ((u + natAbs (Long p)) % (natAbs (Long p) * 2)))
+  fits-rest = rw rest (record { sfits = omega (arith, x-lt, few) })
+
+  less : toZ w64 ((u + natAbs (Long p)) % (natAbs (Long p) * 2)) -ℤ Long p ≡ subℕ x H
+  less = rw (rest, toZ-pos w64 {n = x} (omega (arith, x-lt, few)), half) (pos-minus x H)
+
+  fits-int : SFits w32 (subℕ x H)
+  fits-int = record { sfits = sub-mag x H (2 ^ 31) (omega (arith, x-lt, few)) few }
+
+  fits-less : SFits w64 (toZ w64 ((u + natAbs (Long p)) % (natAbs (Long p) * 2)) -ℤ Long p)
+  fits-less = rw less (wider fits-int)
+
+  fits-back : SFits w32 (Long (toZ w64 ((u + natAbs (Long p)) % (natAbs (Long p) * 2)) -ℤ Long p))
+  fits-back = rw (less, toZ-ofZ (wider fits-int)) fits-int
+
+  place : subℕ x H ≡ signedOf w u
+  unfolding signedOf
+  place = elim (decLt u H) [
+    | yes l ↦
+        (let a : x ≡ u + H = mod-eq-of-lt (omega arith) in
+        rw (lt-ltb u H l, a) (sub-le (u + H) H (omega arith) ∙ ap pos (omega arith)))
+    | no l ↦
+        (let b : u + H ≡ (u - H) + H * 2 = omega arith in
+        let a : x ≡ u - H = ap (λ (y : ℕ). y % (H * 2)) b ∙ add-mod-right (u - H) (H * 2) ∙ mod-eq-of-lt (omega (arith, below)) in
+        rw (le-ltb u H (omega arith), a, sub-lt (u - H) H (omega (arith, below)), sub-lt u (2 ^ w) (h .2)) (ap negsuc (omega (arith, doubles w (h .0), below))))
+  ]
+
+  is-signed : Int (Long (toZ w64 ((u + natAbs (Long p)) % (natAbs (Long p) * 2)) -ℤ Long p)) ≡ signedOf w u
+  is-signed = rw (less, toZ-ofZ (wider fits-int), toZ-ofZ fits-int) place
 
 pub signed-spec : {M : Type 1} → statement M
 signed-spec =
     tie.close
     (tie.spec
     (λ c. search needs)
-    (λ c. search needs)
     (λ c κs. search needs)
-    (λ c. search fits-low)
-    (λ c. search low)
-    (λ c κs. search needs)
-    (λ c. search fits-sub)
-    (λ c. search fits-high)
-    (λ c. search high))
+    (λ c. whole-half _ _ (c .before .pre) _ (c .power .ensures))
+    (λ c. fits-sum _ _ (c .before .pre) _ (c .power .ensures))
+    (λ c. fits-all _ _ (c .before .pre) _ (c .power .ensures))
+    (λ c. above _ _ (c .before .pre) _ (c .power .ensures))
+    (λ c. fits-rest _ _ (c .before .pre) _ (c .power .ensures))
+    (λ c. fits-less _ _ (c .before .pre) _ (c .power .ensures))
+    (λ c. fits-back _ _ (c .before .pre) _ (c .power .ensures))
+    (λ c. is-signed _ _ (c .before .pre) _ (c .power .ensures)))

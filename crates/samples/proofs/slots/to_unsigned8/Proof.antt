@@ -1,8 +1,8 @@
 -- The number rescaled and 128 added is its place.
 use mathlib.Core.Path.{_≡_, sym, ap, _∙_}
-use Prim.Native.Nat.{ℕ, _+_, _-_, _^_, _≤_, _<_}
+use Prim.Native.Nat.{ℕ, _+_, _*_, _^_, _<_}
 use native.Mathlib.Omega.{arith}
-use lib.Dec.{T, lit≤}
+use lib.Dec.{T, lit≤, lit<}
 use lib.IntN.{ℤ, pos, natAbs, subℕ, _+ℤ_}
 use lib.Signed.{mag, nonNeg}
 use mir.Syntax.{w32}
@@ -16,19 +16,26 @@ use Rattle.samples.proofs.Machine.{Int}
 use Rattle.samples.proofs.Places.{rank-lt, sub-le, plus}
 use Rattle.samples.proofs.Rescaled.{rescaled-lt}
 use Rattle.samples.proofs.Bits.{signed-mag}
-use Rattle.samples.proofs.Moves.{bits8, bits24, room, there}
+use Rattle.samples.proofs.Aligned.{aligned}
+use Rattle.samples.proofs.Moves.{bits8, bits32, there}
 use Rattle.samples.proofs.slots.to_unsigned8.Statement.{statement}
 use Rattle.samples.proofs.slots.to_unsigned8.Tie as tie
 
 module _ (s : ℕ) (h : s < 2 ^ 24) where
-  small : mag (signedOf 24 s) < 2 ^ 23
-  small = signed-mag 24 (lit≤ tt) s h
+  abbrev z : ℤ
+  z = signedOf 32 (s * 256)
+
+  top : s * 256 < 2 ^ 32
+  top = omega arith
+
+  small : mag z < 2 ^ 31
+  small = signed-mag 32 (lit≤ tt) (s * 256) top
 
   abbrev y : ℕ
-  y = rescaled 24 8 (rank 8388608 (signedOf 24 s))
+  y = rescaled 32 8 (rank (2 ^ 31) z)
 
   below : y < 256
-  below = rescaled-lt 24 8 (rank 8388608 (signedOf 24 s)) (omega (arith, rank-lt 8388608 (signedOf 24 s) small))
+  below = rescaled-lt 32 8 (rank (2 ^ 31) z) (omega (arith, rank-lt (2 ^ 31) z small))
 
   module _ (r : ℤ) (e : Int r ≡ subℕ y 128) where
     sum : Int r +ℤ pos 128 ≡ pos y
@@ -45,19 +52,22 @@ module _ (s : ℕ) (h : s < 2 ^ 24) where
 
     sent : (natAbs (Int (Int r +ℤ pos 128)) ≡ sentOf Unsigned8 s) × (natAbs (Int (Int r +ℤ pos 128)) < 2 ^ 8)
     unfolding sentOf converted
-    sent = rw number (sym (ap natAbs (sub-le y 0 (omega arith)) ∙ omega arith), below)
+    sent =
+        let w = rescaled 24 8 (rank 8388608 (signedOf 24 s)) in
+        rw number (aligned s 8 h (lit< tt) ∙ sym (ap natAbs (sub-le w 0 (omega arith)) ∙ omega arith), below)
 
 start : (c : tie.After-rescale) → Int (c .rescale .result) ≡ subℕ (y (c .before .before .args .s) (c .before .before .pre)) 128
 start c =
     let o = c .before .before in
-    there 24 8 (signedOf 24 (o .args .s)) bits24 bits8 (small (o .args .s) (o .pre)) _ (c .before .signed .ok) (c .before .signed .ensures) _ (c .rescale .ok) (c .rescale .ensures)
+    there 32 8 (z (o .args .s) (o .pre)) bits32 bits8 (small (o .args .s) (o .pre)) _ (c .before .signed .ok) (c .before .signed .ensures) _ (c .rescale .ok) (c .rescale .ensures)
 
 pub to-unsigned8-spec : {M : Type 1} → statement M
 to-unsigned8-spec =
     tie.close
     (tie.spec
+    (λ c. search needs)
     (λ c κs. search needs)
-    (λ c κs. room 24 8 (signedOf 24 (c .before .args .s)) bits24 bits8 (small (c .before .args .s) (c .before .pre)) _ (c .signed .ok) (c .signed .ensures))
+    (λ c κs. search needs)
     (λ c. fits _ (c .before .before .pre) (c .rescale .result) (start c))
     (λ c. whole _ (c .before .before .pre) (c .rescale .result) (start c))
     (λ c. sent _ (c .before .before .pre) (c .rescale .result) (start c)))
