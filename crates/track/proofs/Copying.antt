@@ -14,7 +14,7 @@ use Rattle.track.specs.Records.{recordOf, recordsOf, laidOf, packetSlot}
 use Rattle.track.proofs.Spelling.{sample-below, bytes-back}
 use Rattle.track.proofs.Laws.{packet-heard}
 
-same-slot : (u : ℕ) → u < 2 ^ 24 → slotOf Signed24 u ≡ u
+pub same-slot : (u : ℕ) → u < 2 ^ 24 → slotOf Signed24 u ≡ u
 unfolding slotOf
 same-slot u l = same-bits u l
 

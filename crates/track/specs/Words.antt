@@ -1,8 +1,12 @@
--- What the code stores at a time: a word of eight bytes, and eight slots as a record.
-use Prim.Native.Nat.{ℕ, _/_, _%_}
+-- What the code reads and stores at a time: a word of eight bytes, and eight slots as a record.
+use Prim.Native.Nat.{ℕ, _+_, _*_, _/_, _%_}
 use mathlib.Core.List.{List, [], _∷_, _++_}
-use Rattle.samples.specs.declared.Format.the-variants.{Signed24}
-use Rattle.track.specs.Bytes.{sampleBytes}
+use Rattle.samples.specs.declared.Format.the-variants.{Signed24, Signed32}
+use Rattle.track.specs.Bytes.{sampleAt, sampleBytes}
+
+-- the word whose eight bytes stand at a, the lowest first
+abbrev pub wordAt : List ℕ → ℕ → ℕ
+wordAt d a = sampleAt Signed32 d a + sampleAt Signed32 d (a + 4) * 4294967296
 
 -- the bytes of a word
 unfoldable pub eight : ℕ → List ℕ

@@ -58,6 +58,36 @@ fn some(d: &[u8], from: usize, frames: usize, channels: usize, track: &mut [u8],
     }
 }
 
+// A frame of two channels is six bytes, which are the record's first: one word, and two that are 0.
+fn pair_frame(d: &[u8], from: usize, out: &mut [u8])
+    requires { ⌜ (from + 2 * 3 ≤ length (now d)) × (length (now out) ≡ 24) ⌝ }
+    ensures { λ _. ⌜ now (out .exit) ≡ recordOf (frameSlot Signed24 (now (d .entry)) from 2) ⌝ }
+{
+    let w = words::wider(words::get4(d, from))
+        + words::wider(words::get2(d, from + 4)) * 4294967296;
+    words::put8(&mut out[0..8], w);
+    words::put8(&mut out[8..16], 0);
+    words::put8(&mut out[16..24], 0);
+}
+
+// Two channels: a loop of its own, over frames read at once.
+fn pairs(d: &[u8], from: usize, frames: usize, track: &mut [u8], place: usize)
+    requires { ⌜ (from + frames * (2 * 3) ≤ length (now d)) × (place * 24 + frames * 24 ≤ length (now track)) ⌝ }
+    ensures { λ _. ⌜ now (track .exit) ≡ laidOf (now (track .entry)) place frames (packetSlot Signed24 (now (d .entry)) from 2) ⌝ }
+{
+    let step = 2 * SIZE;
+    let mut k = 0;
+    let mut at = from;
+    let mut a = place * 24;
+    while k < frames {
+        let e = a + 24;
+        pair_frame(d, at, &mut track[a..e]);
+        at += step;
+        a = e;
+        k += 1;
+    }
+}
+
 // Eight channels of 24 bits are the record, byte for byte.
 fn full(d: &[u8], from: usize, frames: usize, track: &mut [u8], place: usize)
     requires { ⌜ (from + frames * (8 * 3) ≤ length (now d)) × (place * 24 + frames * 24 ≤ length (now track)) ⌝ }
@@ -71,7 +101,7 @@ pub fn lay(d: &[u8], from: usize, frames: usize, channels: usize, track: &mut [u
     ensures { λ _. ⌜ now (track .exit) ≡ laidOf (now (track .entry)) place frames (packetSlot Signed24 (now (d .entry)) from channels) ⌝ }
 {
     if channels == 2 {
-        some(d, from, frames, 2, track, place);
+        pairs(d, from, frames, track, place);
         return;
     }
     if channels == 8 {

@@ -1,8 +1,9 @@
 // Laying unsigned samples of 8 bits.
 ghost use mathlib.Core.Path.{_≡_};
-ghost use Prim.Native.Nat.{_+_, _*_, _<_, _≤_};
+ghost use Prim.Native.Nat.{_+_, _*_, _/_, _%_, _<_, _≤_};
 ghost use lib.ListN.{length};
 ghost use Rattle.samples.specs.declared.Format.the-variants.{Unsigned8};
+ghost use Rattle.samples.specs.Wire.{slotOf};
 ghost use Rattle.track.specs.Records.{recordOf, packetSlot, laidOf};
 ghost use Rattle.track.specs.Frames.{frameSlot};
 use crate::words;
@@ -58,6 +59,51 @@ fn some(d: &[u8], from: usize, frames: usize, channels: usize, track: &mut [u8],
     }
 }
 
+// The slot of one byte of a word.
+fn part(w: u64, p: u64) -> u64
+    requires { ⌜ 0 < p ⌝ }
+    ensures { λ r. ⌜ (r ≡ slotOf Unsigned8 (w / p % 256)) × (r < 16777216) ⌝ }
+{
+    words::wider(slots::from_unsigned8((w / p % 256) as u32))
+}
+
+// A frame of eight channels is one word.
+fn full_frame(d: &[u8], from: usize, out: &mut [u8])
+    requires { ⌜ (from + 8 * 1 ≤ length (now d)) × (length (now out) ≡ 24) ⌝ }
+    ensures { λ _. ⌜ now (out .exit) ≡ recordOf (frameSlot Unsigned8 (now (d .entry)) from 8) ⌝ }
+{
+    let w = words::get8(d, from);
+    words::put_record(
+        out,
+        part(w, 1),
+        part(w, 256),
+        part(w, 65536),
+        part(w, 16777216),
+        part(w, 4294967296),
+        part(w, 1099511627776),
+        part(w, 281474976710656),
+        part(w, 72057594037927936),
+    );
+}
+
+// Eight channels: a loop of its own, over frames read at once.
+fn full(d: &[u8], from: usize, frames: usize, track: &mut [u8], place: usize)
+    requires { ⌜ (from + frames * (8 * 1) ≤ length (now d)) × (place * 24 + frames * 24 ≤ length (now track)) ⌝ }
+    ensures { λ _. ⌜ now (track .exit) ≡ laidOf (now (track .entry)) place frames (packetSlot Unsigned8 (now (d .entry)) from 8) ⌝ }
+{
+    let step = 8 * SIZE;
+    let mut k = 0;
+    let mut at = from;
+    let mut a = place * 24;
+    while k < frames {
+        let e = a + 24;
+        full_frame(d, at, &mut track[a..e]);
+        at += step;
+        a = e;
+        k += 1;
+    }
+}
+
 pub fn lay(d: &[u8], from: usize, frames: usize, channels: usize, track: &mut [u8], place: usize)
     requires { ⌜ (channels ≤ 8) × (from + frames * (channels * 1) ≤ length (now d)) × (place * 24 + frames * 24 ≤ length (now track)) ⌝ }
     ensures { λ _. ⌜ now (track .exit) ≡ laidOf (now (track .entry)) place frames (packetSlot Unsigned8 (now (d .entry)) from channels) ⌝ }
@@ -67,7 +113,7 @@ pub fn lay(d: &[u8], from: usize, frames: usize, channels: usize, track: &mut [u
         return;
     }
     if channels == 8 {
-        some(d, from, frames, 8, track, place);
+        full(d, from, frames, track, place);
         return;
     }
     if channels == 1 {

@@ -6,7 +6,7 @@ ghost use lib.ListN.{length, take, drop};
 ghost use Rattle.samples.specs.declared.Format.the-variants.{Unsigned8, Signed16, Signed24, Signed32};
 ghost use Rattle.lists.specs.Lists.{put};
 ghost use Rattle.track.specs.Bytes.{sampleAt};
-ghost use Rattle.track.specs.Words.{eight, slots};
+ghost use Rattle.track.specs.Words.{wordAt, eight, slots};
 
 pub fn wide(x: u8) -> u32
     ensures { λ r. ⌜ (r ≡ x) × (r < 256) ⌝ }
@@ -46,6 +46,14 @@ pub fn get4(d: &[u8], a: usize) -> u32
     ensures { λ r. ⌜ r ≡ sampleAt Signed32 (now (d .entry)) a ⌝ }
 {
     wide(d[a]) + wide(d[a + 1]) * 256 + wide(d[a + 2]) * 65536 + wide(d[a + 3]) * 16777216
+}
+
+// As two reads of four, which become one read of eight; a sum of eight single bytes would not.
+pub fn get8(d: &[u8], a: usize) -> u64
+    requires { ⌜ a + 8 ≤ length (now d) ⌝ }
+    ensures { λ r. ⌜ r ≡ wordAt (now (d .entry)) a ⌝ }
+{
+    wider(get4(d, a)) + wider(get4(d, a + 4)) * 4294967296
 }
 
 // A number's eight bytes.
@@ -89,6 +97,16 @@ pub fn put_record(
     put8(&mut out[16..24], c5 / 256 + c6 * 65536 + c7 * 1099511627776);
 }
 
+// By way of a block of our own: the compiler then sees that nothing overlaps, drops the block, and moves memory at once.
+fn copy_block(src: &[u8], out: &mut [u8])
+    requires { ⌜ (length (now src) ≤ 1464) × (length (now out) ≡ length (now src)) ⌝ }
+    ensures { λ _. ⌜ now (out .exit) ≡ now (src .entry) ⌝ }
+{
+    let mut block = [0u8; 1464];
+    let n = bytes::copy(src, &mut block);
+    bytes::copy(&block[..n], out);
+}
+
 // `n` bytes of `d` from `from` on, written over `out` from `at` on.
 pub fn copy(d: &[u8], from: usize, n: usize, out: &mut [u8], at: usize)
     requires { ⌜ (from + n ≤ length (now d)) × (at + n ≤ length (now out)) ⌝ }
@@ -96,5 +114,9 @@ pub fn copy(d: &[u8], from: usize, n: usize, out: &mut [u8], at: usize)
 {
     let past = from + n;
     let end = at + n;
+    if n <= 1464 {
+        copy_block(&d[from..past], &mut out[at..end]);
+        return;
+    }
     bytes::copy(&d[from..past], &mut out[at..end]);
 }

@@ -1,14 +1,14 @@
 -- Taking out, over the type: a slot as a sample, the loop over a frame's channels, and the loop over the frames.
 use mathlib.Core.Path.{_≡_, refl, sym, ap, _∙_}
-use mathlib.Core.List.{List}
+use mathlib.Core.List.{List, _++_}
 use Prim.Native.Nat.{ℕ, _+_, _*_, _-_, _≤_, _<_, zero-le}
 use native.Mathlib.Nat.{le-antisymm, zero-add}
 use native.Mathlib.Omega.{arith}
-use lib.ListN.{length}
+use lib.ListN.{length, length-append}
 use lib.Seq.{sets}
 use borrow.Rule.Slice.PartMut.{putMid}
 use Rattle.lists.specs.Lists.{put, upTo}
-use Rattle.lists.proofs.Lists.{upTo-length, put-none, put-length, turn, filled, stored, within, one-more}
+use Rattle.lists.proofs.Lists.{upTo-length, put-none, put-length, put-more, put-whole, lent, turn, filled, stored, within, one-more}
 use Rattle.samples.specs.declared.Format.{Format}
 use Rattle.samples.specs.declared.Format.the-variants.{Unsigned8, Signed16, Signed24, Signed32}
 use Rattle.samples.specs.Formats.{sizeOf}
@@ -25,6 +25,17 @@ stored-sample Signed16 out v h = stored out (sampleBytes Signed16 v) h
 stored-sample Signed24 out v h = stored out (sampleBytes Signed24 v) h
 stored-sample Signed32 out v h = stored out (sampleBytes Signed32 v) h
 
+-- two parts that were lent side by side, over the whole
+pub beside : (out xs ys : List ℕ) (m n : ℕ) → length out ≡ m + n → length xs ≡ m → length ys ≡ n
+    → putMid m n (putMid 0 m out xs) ys ≡ xs ++ ys
+beside out xs ys m n h p q =
+    let w : length out ≡ length (xs ++ ys) = h ∙ rw (length-append xs ys, p, q) in
+    rw (lent out xs 0 m p, lent (put out 0 xs) ys m n q, ← p)
+    (rw (← zero-add (length xs)) (put-more out xs ys 0 zero-le) ∙ put-whole out (xs ++ ys) w)
+
+pub samples-length : (f : Format) (g : ℕ → ℕ) (n : ℕ) → length (upTo n (λ c. sampleBytes f (g c))) ≡ n * sizeOf f
+samples-length f g n = upTo-length (sizeOf f) (λ c. sampleBytes f (g c)) (λ c. bytes-length f (g c)) n
+
 module _ (f : Format) (t : List ℕ) (at : ℕ) where
   pub sent : (c s r : ℕ) → s ≡ sampleAt Signed24 t (at + c * 3) → r ≡ sentOf f s → r ≡ sentAt f t at c
   unfolding sentAt
@@ -32,7 +43,7 @@ module _ (f : Format) (t : List ℕ) (at : ℕ) where
 
   pub frame-length : (channels : ℕ) → length (frameOut f t at channels) ≡ channels * sizeOf f
   unfolding frameOut
-  frame-length channels = upTo-length (sizeOf f) (λ c. sampleBytes f (sentAt f t at c)) (λ c. bytes-length f (sentAt f t at c)) channels
+  frame-length channels = samples-length f (sentAt f t at) channels
 
 -- ---- the loop over the channels
 
@@ -81,7 +92,7 @@ pub record Taking (f : Format) (t : List ℕ) (first frames channels : ℕ) (out
   pub writes : a ≡ place + k * (channels * sizeOf f)
   pub so-far : out ≡ put out₀ place (takenOf f t first k channels)
 
-module _ (f : Format) (t : List ℕ) (first frames channels : ℕ) (out₀ : List ℕ) (place : ℕ) where
+module _ (f : Format) (channels : ℕ) (t : List ℕ) (first frames : ℕ) (out₀ : List ℕ) (place : ℕ) where
   pub start : Taking f t first frames channels out₀ place out₀ 0 (first * 24) place
   unfolding takenOf upTo
   start = record { turns = zero-le; same = refl; reads = omega arith; writes = omega arith; so-far = put-none out₀ place }

@@ -14,3 +14,7 @@ sentAt f t at c = sentOf f (sampleAt Signed24 t (at + c * 3))
 -- the record's channels, as a frame of the type
 unfoldable pub frameOut : Format → List ℕ → ℕ → ℕ → List ℕ
 frameOut f t at channels = upTo channels (λ c. sampleBytes f (sentAt f t at c))
+
+-- n of its channels from channel c on
+unfoldable pub runOut : Format → List ℕ → ℕ → ℕ → ℕ → List ℕ
+runOut f t at c n = upTo n (λ i. sampleBytes f (sentAt f t at (c + i)))

@@ -33,7 +33,7 @@ fn frame(track: &[u8], at: usize, channels: usize, out: &mut [u8])
     }
 }
 
-// A frame a turn. Called with a literal count, the loop over the channels folds away.
+// A frame a turn.
 fn some(track: &[u8], first: usize, frames: usize, channels: usize, out: &mut [u8], at: usize)
     requires { ⌜ (channels ≤ 8) × ((first + frames) * 24 ≤ length (now track)) × (at + frames * (channels * 3) ≤ length (now out)) ⌝ }
     ensures { λ _. ⌜ now (out .exit) ≡ put (now (out .entry)) at (takenOf Signed24 (now (track .entry)) first frames channels) ⌝ }
@@ -45,6 +45,60 @@ fn some(track: &[u8], first: usize, frames: usize, channels: usize, out: &mut [u
     while k < frames {
         let e = a + step;
         frame(track, from, channels, &mut out[a..e]);
+        from += 24;
+        a = e;
+        k += 1;
+    }
+}
+
+// A sample as two words: stores of three single bytes would not be joined.
+fn one_frame(track: &[u8], at: usize, out: &mut [u8])
+    requires { ⌜ (at + 24 ≤ length (now track)) × (length (now out) ≡ 3) ⌝ }
+    ensures { λ _. ⌜ now (out .exit) ≡ frameOut Signed24 (now (track .entry)) at 1 ⌝ }
+{
+    let a = track::words::get2(track, at);
+    let b = track::words::get1(track, at + 2);
+    words::put2(&mut out[0..2], a);
+    words::put1(&mut out[2..3], b);
+}
+
+fn ones(track: &[u8], first: usize, frames: usize, out: &mut [u8], at: usize)
+    requires { ⌜ ((first + frames) * 24 ≤ length (now track)) × (at + frames * (1 * 3) ≤ length (now out)) ⌝ }
+    ensures { λ _. ⌜ now (out .exit) ≡ put (now (out .entry)) at (takenOf Signed24 (now (track .entry)) first frames 1) ⌝ }
+{
+    let mut k = 0;
+    let mut from = first * 24;
+    let mut a = at;
+    while k < frames {
+        let e = a + 3;
+        one_frame(track, from, &mut out[a..e]);
+        from += 24;
+        a = e;
+        k += 1;
+    }
+}
+
+// Two samples as two words.
+fn pair_frame(track: &[u8], at: usize, out: &mut [u8])
+    requires { ⌜ (at + 24 ≤ length (now track)) × (length (now out) ≡ 6) ⌝ }
+    ensures { λ _. ⌜ now (out .exit) ≡ frameOut Signed24 (now (track .entry)) at 2 ⌝ }
+{
+    let a = track::words::get4(track, at);
+    let b = track::words::get2(track, at + 4);
+    words::put4(&mut out[0..4], a);
+    words::put2(&mut out[4..6], b);
+}
+
+fn pairs(track: &[u8], first: usize, frames: usize, out: &mut [u8], at: usize)
+    requires { ⌜ ((first + frames) * 24 ≤ length (now track)) × (at + frames * (2 * 3) ≤ length (now out)) ⌝ }
+    ensures { λ _. ⌜ now (out .exit) ≡ put (now (out .entry)) at (takenOf Signed24 (now (track .entry)) first frames 2) ⌝ }
+{
+    let mut k = 0;
+    let mut from = first * 24;
+    let mut a = at;
+    while k < frames {
+        let e = a + 6;
+        pair_frame(track, from, &mut out[a..e]);
         from += 24;
         a = e;
         k += 1;
@@ -71,7 +125,7 @@ pub fn take_out(
     ensures { λ _. ⌜ now (out .exit) ≡ put (now (out .entry)) at (takenOf Signed24 (now (track .entry)) first frames channels) ⌝ }
 {
     if channels == 2 {
-        some(track, first, frames, 2, out, at);
+        pairs(track, first, frames, out, at);
         return;
     }
     if channels == 8 {
@@ -79,7 +133,7 @@ pub fn take_out(
         return;
     }
     if channels == 1 {
-        some(track, first, frames, 1, out, at);
+        ones(track, first, frames, out, at);
         return;
     }
     some(track, first, frames, channels, out, at);

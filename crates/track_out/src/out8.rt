@@ -5,7 +5,7 @@ ghost use lib.ListN.{length};
 ghost use Rattle.samples.specs.declared.Format.the-variants.{Unsigned8};
 ghost use Rattle.lists.specs.Lists.{put};
 ghost use Rattle.track.specs.Records.{takenOf};
-ghost use Rattle.track_out.specs.Frames.{sentAt, frameOut};
+ghost use Rattle.track_out.specs.Frames.{sentAt, frameOut, runOut};
 use crate::words;
 use samples::slots;
 
@@ -51,6 +51,49 @@ fn some(track: &[u8], first: usize, frames: usize, channels: usize, out: &mut [u
     }
 }
 
+// Frames of eight channels are straight-line code: the loop over the channels would not unroll at eight.
+fn pair(track: &[u8], at: usize, c: usize, out: &mut [u8])
+    requires { ⌜ (c + 2 ≤ 8) × (at + 24 ≤ length (now track)) × (length (now out) ≡ 2) ⌝ }
+    ensures { λ _. ⌜ now (out .exit) ≡ runOut Unsigned8 (now (track .entry)) at c 2 ⌝ }
+{
+    let v = sample(track, at, c);
+    words::put1(&mut out[0..1], v);
+    let w = sample(track, at, c + 1);
+    words::put1(&mut out[1..2], w);
+}
+
+fn four(track: &[u8], at: usize, c: usize, out: &mut [u8])
+    requires { ⌜ (c + 4 ≤ 8) × (at + 24 ≤ length (now track)) × (length (now out) ≡ 4) ⌝ }
+    ensures { λ _. ⌜ now (out .exit) ≡ runOut Unsigned8 (now (track .entry)) at c 4 ⌝ }
+{
+    pair(track, at, c, &mut out[0..2]);
+    pair(track, at, c + 2, &mut out[2..4]);
+}
+
+fn full_frame(track: &[u8], at: usize, out: &mut [u8])
+    requires { ⌜ (at + 24 ≤ length (now track)) × (length (now out) ≡ 8) ⌝ }
+    ensures { λ _. ⌜ now (out .exit) ≡ frameOut Unsigned8 (now (track .entry)) at 8 ⌝ }
+{
+    four(track, at, 0, &mut out[0..4]);
+    four(track, at, 4, &mut out[4..8]);
+}
+
+fn full(track: &[u8], first: usize, frames: usize, out: &mut [u8], at: usize)
+    requires { ⌜ ((first + frames) * 24 ≤ length (now track)) × (at + frames * (8 * 1) ≤ length (now out)) ⌝ }
+    ensures { λ _. ⌜ now (out .exit) ≡ put (now (out .entry)) at (takenOf Unsigned8 (now (track .entry)) first frames 8) ⌝ }
+{
+    let mut k = 0;
+    let mut from = first * 24;
+    let mut a = at;
+    while k < frames {
+        let e = a + 8;
+        full_frame(track, from, &mut out[a..e]);
+        from += 24;
+        a = e;
+        k += 1;
+    }
+}
+
 pub fn take_out(
     track: &[u8],
     first: usize,
@@ -67,7 +110,7 @@ pub fn take_out(
         return;
     }
     if channels == 8 {
-        some(track, first, frames, 8, out, at);
+        full(track, first, frames, out, at);
         return;
     }
     if channels == 1 {

@@ -1,0 +1,72 @@
+-- The bytes of the word are the frame's samples.
+use mathlib.Core.Path.{_≡_, refl}
+use mathlib.Core.List.{List}
+use Prim.Native.Nat.{ℕ, _+_, _*_, _/_, _%_, _<_}
+use native.Mathlib.Nat.{add-zero, add-assoc}
+use native.Mathlib.Omega.{arith}
+use lib.Dec.{lit<}
+use borrow.Author.Needs.{needs}
+use Rattle.lists.specs.Lists.{byte}
+use Rattle.samples.specs.declared.Format.the-variants.{Unsigned8}
+use Rattle.samples.specs.Wire.{slotOf}
+use Rattle.track.specs.Words.{wordAt, slots}
+use Rattle.track.specs.Records.{recordOf}
+use Rattle.track.specs.Frames.{frameSlot}
+use Rattle.track.proofs.Laying.{heard, framed}
+use Rattle.track.proofs.lay8.full_frame.Statement.{statement}
+use Rattle.track.proofs.lay8.full_frame.Tie as tie
+
+module _ (d : List ℕ) (below : (i : ℕ) → byte d i < 256) (from : ℕ) where
+  word-bytes : (w : ℕ) → w ≡ wordAt d from
+      → (w / 1 % 256 ≡ byte d (from + 0 * 1)) × (w / 256 % 256 ≡ byte d (from + 1 * 1)) × (w / 65536 % 256 ≡ byte d (from + 2 * 1))
+      × (w / 16777216 % 256 ≡ byte d (from + 3 * 1)) × (w / 4294967296 % 256 ≡ byte d (from + 4 * 1))
+      × (w / 1099511627776 % 256 ≡ byte d (from + 5 * 1)) × (w / 281474976710656 % 256 ≡ byte d (from + 6 * 1))
+      × (w / 72057594037927936 % 256 ≡ byte d (from + 7 * 1))
+  word-bytes w e =
+      let e = rw (add-assoc from 4 1, add-assoc from 4 2, add-assoc from 4 3) at e in
+      let h0 = below from in let h1 = below (from + 1) in let h2 = below (from + 2) in let h3 = below (from + 3) in
+      let h4 = below (from + 4) in let h5 = below (from + 5) in let h6 = below (from + 6) in let h7 = below (from + 7) in (
+        rw (add-zero from) (omega arith),
+        omega arith,
+        omega arith,
+        omega arith,
+        omega arith,
+        omega arith,
+        omega arith,
+        omega arith,
+      )
+
+  word-framed : (out : List ℕ) (w r0 r1 r2 r3 r4 r5 r6 r7 : ℕ) → w ≡ wordAt d from → out ≡ slots r0 r1 r2 r3 r4 r5 r6 r7
+      → r0 ≡ slotOf Unsigned8 (w / 1 % 256) → r1 ≡ slotOf Unsigned8 (w / 256 % 256) → r2 ≡ slotOf Unsigned8 (w / 65536 % 256)
+      → r3 ≡ slotOf Unsigned8 (w / 16777216 % 256) → r4 ≡ slotOf Unsigned8 (w / 4294967296 % 256)
+      → r5 ≡ slotOf Unsigned8 (w / 1099511627776 % 256) → r6 ≡ slotOf Unsigned8 (w / 281474976710656 % 256)
+      → r7 ≡ slotOf Unsigned8 (w / 72057594037927936 % 256) → out ≡ recordOf (frameSlot Unsigned8 d from 8)
+  word-framed out w r0 r1 r2 r3 r4 r5 r6 r7 e p e0 e1 e2 e3 e4 e5 e6 e7 =
+      let b = word-bytes w e in
+      let one : (c u r : ℕ) → c < 8 → u ≡ byte d (from + c * 1) → r ≡ slotOf Unsigned8 u → r ≡ frameSlot Unsigned8 d from 8 c
+      = λ c u r h q s. heard Unsigned8 d from 8 c u r r h q s refl in
+      framed Unsigned8 d from 8 out r0 r1 r2 r3 r4 r5 r6 r7 p
+      (one 0 _ r0 (lit< tt) (b .0) e0) (one 1 _ r1 (lit< tt) (b .1) e1) (one 2 _ r2 (lit< tt) (b .2) e2) (one 3 _ r3 (lit< tt) (b .3) e3)
+      (one 4 _ r4 (lit< tt) (b .4) e4) (one 5 _ r5 (lit< tt) (b .5) e5) (one 6 _ r6 (lit< tt) (b .6) e6) (one 7 _ r7 (lit< tt) (b .7) e7)
+
+returns : tie.Need-returns
+returns c =
+    let o = c .before .before .before .before .before .before .before .before .before .before .before .before .before .before in
+    search (word-framed (o .before .args .d .now) (λ i. o .shared-slice-known .given i .fits))
+
+pub full-frame-spec : {M : Type 1} → statement M
+full-frame-spec =
+    tie.close
+    (tie.spec
+    (λ c κs. search needs)
+    (λ c κs. search needs)
+    (λ c κs. search needs)
+    (λ c κs. search needs)
+    (λ c κs. search needs)
+    (λ c κs. search needs)
+    (λ c κs. search needs)
+    (λ c κs. search needs)
+    (λ c κs. search needs)
+    (λ c κs. search needs)
+    (λ c. search needs)
+    returns)
