@@ -2,15 +2,19 @@
 use mathlib.Core.Path.{_≡_, refl}
 use mathlib.Core.Logic.{_↔_}
 use mathlib.Core.List.{List}
-use Prim.Native.Nat.{ℕ, _*_, _≤_, _<_}
+use Prim.Native.Nat.{ℕ, _+_, _*_, _≤_, _<_}
 use native.Mathlib.Nat.{mul-assoc, mul-le-mul, mul-le-mul-right}
 use native.Mathlib.Omega.{arith}
+use lib.Dec.{ltb}
 use lib.ListN.{length}
-use Rattle.answers.specs.declared.Made.the-variants.{Done}
+use borrow.Author.Tests.{le-ltb, eq-eqb}
+use Rattle.lists.specs.Tables.{choose, first}
+use Rattle.answers.specs.declared.Made.the-variants.{Done, Room}
 use Rattle.samples.specs.Formats.{sizeAt}
 use Rattle.wire.specs.declared.header.Header.{Header}
 use Rattle.wire.specs.Header.{dataSize}
-use Rattle.wire.specs.Write.{GoodForm}
+use Rattle.wire.specs.Write.{writeRows, GoodForm}
+use Rattle.wire.proofs.Writing.{by-form}
 use Rattle.track.specs.Records.{recordsHeld}
 use Rattle.cutter.specs.Cut.{cutSchedule, packetHeader, cutAnswer, GoodCut}
 use Rattle.cutter.proofs.Scheduling.{packet-exactly, count-some}
@@ -19,7 +23,7 @@ use Rattle.cutter.proofs.Exactly.{cut-done-exactly}
 
 module _ (h : Header) (track : List ℕ) where
   -- 21 is never answered
-  never-big : GoodCut h → (k : ℕ) → dataSize (packetHeader h (cutSchedule h track) k) ≤ 1436
+  pub never-big : GoodCut h → (k : ℕ) → dataSize (packetHeader h (cutSchedule h track) k) ≤ 1436
   never-big g k =
       let b = mul-le-mul {n₁ = 1} {m₁ = 1} (g .formed .channels-few .0) (size-some (h .format) (g .formed .typed)) in
       let n = cutSchedule h track .count k in
@@ -45,6 +49,14 @@ module _ (h : Header) (track : List ℕ) where
       }
 
   module _ (short : length (h .name) ≤ 16) (room : ℕ) where
+    -- of the packet writer's rows only the room refuses a packet of a good cut
+    pub only-room : GoodCut h → (k : ℕ) → k < cutSchedule h track .packets
+        → let hk = packetHeader h (cutSchedule h track) k in
+        first Done (writeRows hk (dataSize hk) room) ≡ choose (ltb room (28 + dataSize hk)) Room Done
+    only-room g k l =
+        let hk = packetHeader h (cutSchedule h track) k in
+        rw (by-form hk short (packet-formed (g .formed) k l), le-ltb 1436 (dataSize hk) (never-big g k), eq-eqb (dataSize hk) (dataSize hk) refl)
+
     pub each-as-first : cutAnswer h track 0 room ≡ Done → (k : ℕ) → k < cutSchedule h track .packets → cutAnswer h track k room ≡ Done
     each-as-first e k l =
         let r = cut-done-exactly h short track 0 room .0 e in

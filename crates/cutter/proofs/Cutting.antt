@@ -1,7 +1,7 @@
 -- Packet k as the code cuts it: what the checks leave to the writing, and what is written.
 use mathlib.Core.Path.{_≡_, sym, ap, _∙_}
 use mathlib.Core.List.{List}
-use Prim.Native.Nat.{ℕ, _+_, _*_, _^_, _≤_, _<_}
+use Prim.Native.Nat.{ℕ, _+_, _*_, _≤_}
 use native.Mathlib.Nat.{mul-assoc, le-of-eq}
 use native.Mathlib.Omega.{arith}
 use lib.ListN.{length}
@@ -32,6 +32,11 @@ module _ (h : Header) (frames k n counter : ℕ) where
   pub packet-made : n ≡ made .frames → counter ≡ made .counter
       → record { rate = h .rate; frames = n; channels = h .channels; format = h .format; name = h .name; counter = counter } ≡ made
   packet-made p q = rw (p, q)
+
+-- its name is the header's
+pub packet-named : (h : Header) (k frames : ℕ) (hk : Header) → hk ≡ packetHeader h (scheduleOf frames (h .frames)) k
+    → (name : List ℕ) → name ≡ h .name → name ≡ hk .name
+packet-named h k frames hk m name n = n ∙ sym (ap (λ (x : Header). x .name) m)
 
 -- ---- the samples
 
@@ -78,9 +83,6 @@ module _ (h : Header) (track : List ℕ) (k : ℕ) (out : List ℕ) (a : Made) (
           let r = cut-done-exactly h (le-of-eq sixteen) track k (length out) .0 (sym e ∙ done) in
           let N = r .0 .formed .frames-few .0 in
           rw (is-packet, f) (r .0 .channels-few, within-track (recordsHeld track) (h .frames) N k (r .1 .1 .0 .below), r .1 .1 .1 .1 .1 .1 .0)
-
-      pub length-fits : (size : ℕ) → size ≡ dataSize hk → length out < 2 ^ 64 → 28 + size < 2 ^ 64
-      length-fits size u l = omega (arith, in-range .2)
 
     pub written : (o : List ℕ) (size : ℕ) → size ≡ dataSize hk
         → o ≡ put out 0 (packetOf hk (takenKnown (indexed (hk .format)) track first (hk .frames) (hk .channels)))

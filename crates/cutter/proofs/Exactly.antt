@@ -29,7 +29,7 @@ use Rattle.cutter.specs.Cut.{cutSchedule, packetHeader, cutPacket, badCu
 -- ---- each row judges its rule
 
 module _ (h : Header) (short : length (h .name) ≤ 16) where
-  cut-by : badCut h ≡ false → GoodCut h
+  pub cut-by : badCut h ≡ false → GoodCut h
   cut-by e =
       let c = none-holds (badForm h ∷ ltb 8 (h .channels) ∷ ltb (largestFrames (h .format) (h .channels)) (h .frames) ∷ []) e in
       record { formed = form-by h short (c .0); channels-few = ltb-false _ _ (c .1 .0); no-larger = ltb-false _ _ (c .1 .1 .0) }
@@ -39,7 +39,7 @@ module _ (h : Header) (short : length (h .name) ≤ 16) where
       rw (by-form h short (g .formed), le-ltb 8 (h .channels) (g .channels-few), le-ltb (largestFrames (h .format) (h .channels)) (h .frames) (g .no-larger))
 
 module _ (s : Schedule) (frames k : ℕ) where
-  number-by : badNumber s frames k ≡ false → GoodNumber s frames k
+  pub number-by : badNumber s frames k ≡ false → GoodNumber s frames k
   number-by e =
       let c = none-holds (eqb frames 0 ∷ ltb (2 ^ 31) (s .packets) ∷ leb (s .packets) k ∷ []) e in
       let z : frames ≡ 0 → ⊥ = eqb-false _ _ (c .0) in

@@ -1,8 +1,8 @@
 pub mod Scheduling
 pub mod Sizes
-pub mod Checks
 pub mod Exactly
-pub mod Cutting
 pub mod Alike
+pub mod Checks
+pub mod Cutting
 pub mod Packets
 pub mod Whole

@@ -1,14 +1,15 @@
 -- The largest N: the most frames that 256 and 1,436 bytes allow.
-use mathlib.Core.Path.{_≡_, refl, sym, _∙_}
+use mathlib.Core.Path.{_≡_, refl, sym, ap, _∙_}
 use mathlib.Core.Logic.{_↔_}
 use mathlib.Core.Bool.{Bool, true, false, not}
 use mathlib.Core.List.{[], _∷_}
-use Prim.Native.Nat.{ℕ, zero, suc, _*_, _/_, _≤_, _<_}
-use native.Mathlib.Nat.{le-div-iff-mul-le, div-zero}
+use Prim.Native.Nat.{ℕ, zero, suc, _*_, _/_, _≤_, _<_, min}
+use native.Mathlib.Nat.{le-div-iff-mul-le, div-lt-iff-lt-mul, div-zero}
 use native.Mathlib.Omega.{arith}
-use borrow.Author.Tests.{not-true, not-false, leb-true, le-leb}
+use lib.Dec.{ltb}
+use borrow.Author.Tests.{lt-ltb, not-true, not-false, leb-true, le-leb}
 use Rattle.lists.specs.Tables.{choose, any, outside}
-use Rattle.lists.proofs.Tables.{by-test, none-holds, inside-by, by-inside}
+use Rattle.lists.proofs.Tables.{by-test, less-alike, none-holds, inside-by, by-inside}
 use Rattle.answers.specs.declared.Made.the-variants.{Done, Form}
 use Rattle.samples.specs.Formats.{maySend, sizeAt}
 use Rattle.cutter.specs.declared.largest.LargestAnswer.{LargestAnswer}
@@ -16,15 +17,29 @@ use Rattle.cutter.specs.Largest.{largestFrames, largestOf}
 
 -- ---- the code's branches
 
-module _ (format channels r : ℕ) (e : r ≡ sizeAt format) where
-  pub no-bytes : channels * r ≡ 0 → 0 ≡ largestFrames format channels
+module _ (format channels r : ℕ) (e : r ≡ channels * sizeAt format) where
+  pub no-bytes : r ≡ 0 → 0 ≡ largestFrames format channels
   no-bytes z = rw (← e, z) (omega (arith, div-zero 1436))
 
-  pub at-most : 256 < 1436 / (channels * r) → 256 ≡ largestFrames format channels
+  pub at-most : 256 < 1436 / r → 256 ≡ largestFrames format channels
   at-most h = rw (← e) (omega arith)
 
-  pub by-bytes : 1436 / (channels * r) ≤ 256 → 1436 / (channels * r) ≡ largestFrames format channels
+  pub by-bytes : 1436 / r ≤ 256 → 1436 / r ≡ largestFrames format channels
   by-bytes h = rw (← e) (omega arith)
+
+  module _ (n : ℕ) where
+    pub over-none : r ≡ 0 → ltb 0 n ≡ ltb (largestFrames format channels) n
+    over-none z = ap (λ (m : ℕ). ltb m n) (no-bytes z)
+
+    pub over-bytes : (r ≡ 0 → ⊥) → n ≤ 256 → ltb 1436 (n * r) ≡ ltb (largestFrames format channels) n
+    over-bytes z l =
+        let some : 0 < r = omega arith in
+        rw (← e)
+        (less-alike 1436 (n * r) (min 256 (1436 / r)) n (λ h. div-lt-iff-lt-mul {k = r} {x = 1436} {y = n} some .0 (omega arith))
+        (λ h. le-div-iff-mul-le {k = r} {x = n} {y = 1436} some .0 (omega arith)))
+
+pub over-most : (format channels n : ℕ) → 256 < n → true ≡ ltb (largestFrames format channels) n
+over-most format channels n l = rw (lt-ltb (largestFrames format channels) n (omega arith))
 
 module _ (format channels : ℕ) (sent : Bool) (e : sent ≡ maySend format) where
   pub unsendable : not sent ≡ true → record { answer = Form; frames = 0 } ≡ largestOf format channels

@@ -19,16 +19,18 @@ pub struct CutAnswer {
     pub length: usize,
 }
 
-fn bad_cut(h: Header) -> bool
+// The header's name comes as a slice beside it, here and below, as the packet writer takes it.
+fn bad_cut(name: &[u8], h: Header) -> bool
+    requires { ⌜ now name ≡ h .name ⌝ }
     ensures { λ r. ⌜ r ≡ badCut h ⌝ }
 {
-    if wire::write::bad_form(h) {
+    if wire::write::bad_form(name, h) {
         return true;
     }
     if h.channels > 8 {
         return true;
     }
-    if h.frames > crate::largest::frames(h.format, h.channels) {
+    if crate::largest::is_over(h.frames, h.format, h.channels) {
         return true;
     }
     false
@@ -49,11 +51,12 @@ fn packet_header(h: Header, frames: usize, k: u32) -> Header
     }
 }
 
-// All rows in order; the last are the packet writer's.
-fn refusal(h: Header, track: &[u8], k: u32, room: usize) -> Made
+// All rows in order. Of the packet writer's only the room can still refuse: N and the track bound the packet.
+fn refusal(name: &[u8], h: Header, track: &[u8], k: u32, room: usize) -> Made
+    requires { ⌜ now name ≡ h .name ⌝ }
     ensures { λ r. ⌜ r ≡ cutAnswer h (now (track .entry)) k room ⌝ }
 {
-    if bad_cut(h) {
+    if bad_cut(name, h) {
         return Made::Form;
     }
     if track.len() % 24 != 0 {
@@ -64,7 +67,10 @@ fn refusal(h: Header, track: &[u8], k: u32, room: usize) -> Made
         return Made::Number;
     }
     let hk = packet_header(h, frames, k);
-    wire::write::refusal(hk, wire::header::data_size(hk), room)
+    if room < 28 + wire::header::data_size(hk) {
+        return Made::Room;
+    }
+    Made::Done
 }
 
 // The frames of a packet from record `first` on, after its header.
@@ -87,21 +93,23 @@ fn take_samples(h: Header, track: &[u8], first: usize, out: &mut [u8])
 }
 
 // Straight into the output, in one pass.
-fn emit(h: Header, track: &[u8], first: usize, out: &mut [u8])
+fn emit(name: &[u8], h: Header, track: &[u8], first: usize, out: &mut [u8])
+    requires { ⌜ now name ≡ h .name ⌝ }
     requires { ⌜ GoodForm h ⌝ }
     requires { ⌜ (h .channels ≤ 8) × (first + h .frames ≤ recordsHeld (now track)) × (28 + dataSize h ≤ length (now out)) ⌝ }
     ensures { λ _. ⌜ now (out .exit) ≡ put (now (out .entry)) 0 (packetOf h (takenKnown (indexed (h .format)) (now (track .entry)) first (h .frames) (h .channels))) ⌝ }
 {
-    wire::write::header(h, &mut out[0..28]);
+    wire::write::header(name, h, &mut out[0..28]);
     take_samples(h, track, first, out);
 }
 
 // Packet `k` of the track, or nothing where a check refuses. The header's frames are N and its counter is the start.
-pub fn cut(h: Header, track: &[u8], k: u32, out: &mut [u8]) -> CutAnswer
+pub fn cut_named(name: &[u8], h: Header, track: &[u8], k: u32, out: &mut [u8]) -> CutAnswer
+    requires { ⌜ now name ≡ h .name ⌝ }
     ensures { λ r. ⌜ r ≡ cutOf h (now (track .entry)) k (now (out .entry)) ⌝ }
     ensures { λ _. ⌜ now (out .exit) ≡ cutOutput h (now (track .entry)) k (now (out .entry)) ⌝ }
 {
-    let a = refusal(h, track, k, out.len());
+    let a = refusal(name, h, track, k, out.len());
     if answers::number_made(a) != 0 {
         return CutAnswer {
             answer: a,
@@ -109,9 +117,18 @@ pub fn cut(h: Header, track: &[u8], k: u32, out: &mut [u8]) -> CutAnswer
         };
     }
     let hk = packet_header(h, track::held(track), k);
-    emit(hk, track, crate::schedule::first(h.frames, k), out);
+    emit(name, hk, track, crate::schedule::first(h.frames, k), out);
     CutAnswer {
         answer: a,
         length: 28 + wire::header::data_size(hk),
     }
+}
+
+// The same, of a header alone.
+pub fn cut(h: Header, track: &[u8], k: u32, out: &mut [u8]) -> CutAnswer
+    ensures { λ r. ⌜ r ≡ cutOf h (now (track .entry)) k (now (out .entry)) ⌝ }
+    ensures { λ _. ⌜ now (out .exit) ≡ cutOutput h (now (track .entry)) k (now (out .entry)) ⌝ }
+{
+    let name = h.name;
+    cut_named(&name, h, track, k, out)
 }

@@ -1,5 +1,8 @@
 // The largest N.
 ghost use mathlib.Core.Path.{_≡_};
+ghost use Prim.Native.Nat.{_*_, _≤_};
+ghost use lib.Dec.{ltb};
+ghost use Rattle.samples.specs.Formats.{sizeAt};
 ghost use Rattle.cutter.specs.Largest.{largestFrames, largestOf};
 use answers::Made;
 use samples::Format;
@@ -9,11 +12,18 @@ pub struct LargestAnswer {
     pub frames: u16,
 }
 
+// The bytes of a frame.
+fn frame_bytes(format: u8, channels: u16) -> usize
+    ensures { λ r. ⌜ (r ≡ channels * sizeAt format) × (r ≤ 65535 * 4) ⌝ }
+{
+    channels as usize * Format::size_at(format)
+}
+
 // The lesser of 256 and 1,436 divided by the frame's bytes; 0 where a frame has none.
-pub(crate) fn frames(format: u8, channels: u16) -> u16
+fn frames(format: u8, channels: u16) -> u16
     ensures { λ r. ⌜ r ≡ largestFrames format channels ⌝ }
 {
-    let bytes = channels as usize * Format::size_at(format);
+    let bytes = frame_bytes(format, channels);
     if bytes == 0 {
         return 0;
     }
@@ -22,6 +32,20 @@ pub(crate) fn frames(format: u8, channels: u16) -> u16
         return 256;
     }
     n as u16
+}
+
+// Whether so many frames are over the largest N: a product in place of a division.
+pub(crate) fn is_over(frames: u16, format: u8, channels: u16) -> bool
+    ensures { λ r. ⌜ r ≡ ltb (largestFrames format channels) frames ⌝ }
+{
+    if frames > 256 {
+        return true;
+    }
+    let bytes = frame_bytes(format, channels);
+    if bytes == 0 {
+        return frames > 0;
+    }
+    frames as usize * bytes > 1436
 }
 
 // The most frames that a packet of the type and the channels can have.

@@ -1,19 +1,8 @@
 // Which frames go into which packet.
 ghost use mathlib.Core.Path.{_≡_};
-ghost use Prim.Native.Nat.{_*_, _^_, _<_};
+ghost use Prim.Native.Nat.{_*_};
 ghost use Rattle.cutter.specs.Schedule.{scheduleOf};
 ghost use Rattle.cutter.specs.Cut.{badNumber};
-
-// How many packets `frames` frames make at `n` a packet.
-fn packets(frames: usize, n: u16) -> usize
-    requires { ⌜ frames < 2 ^ 60 ⌝ }
-    ensures { λ r. ⌜ r ≡ scheduleOf frames n .packets ⌝ }
-{
-    if n == 0 {
-        return 0;
-    }
-    (frames + (n as usize - 1)) / n as usize
-}
 
 // The first frame of packet `k`.
 pub(crate) fn first(n: u16, k: u32) -> usize
@@ -37,17 +26,15 @@ pub(crate) fn count(frames: usize, n: u16, k: u32) -> u16
     n
 }
 
-// Whether there are no frames, more than 2^31 packets, or `k` is not below their number.
+// Whether there are no frames, more than 2^31 packets, or `k` is not below their number: products in place of a division.
 pub(crate) fn bad_number(frames: usize, n: u16, k: u32) -> bool
-    requires { ⌜ frames < 2 ^ 60 ⌝ }
     ensures { λ r. ⌜ r ≡ badNumber (scheduleOf frames n) frames k ⌝ }
 {
     if frames == 0 {
         return true;
     }
-    let all = packets(frames, n);
-    if all > 0x8000_0000 {
+    if frames > first(n, 0x8000_0000) {
         return true;
     }
-    all <= k as usize
+    frames <= first(n, k)
 }

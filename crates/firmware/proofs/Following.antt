@@ -1,19 +1,28 @@
 -- What following tells a caller in C, on plain values.
-use mathlib.Core.Path.{_≡_, sym, ap, _∙_}
-use mathlib.Core.List.{List}
+use mathlib.Core.Path.{_≡_, refl, sym, ap, _∙_}
+use mathlib.Core.List.{List, [], _∷_}
 use Prim.Native.Nat.{ℕ, _+_, _≤_, _<_}
-use lib.ListN.{getD, set}
+use lib.Dec.{eqb}
+use lib.ListN.{length, getD, set, take}
 use lib.Seq.{set-getD}
 use borrow.Author.Tests.{lt-ltb, le-ltb, ne-eqb}
+use Rattle.lists.specs.Lists.{put}
+use Rattle.lists.specs.Tables.{choose}
+use Rattle.lists.proofs.Tables.{by-test}
+use Rattle.wire.specs.Header.{headerOf}
+use Rattle.track.specs.Records.{recordsHeld}
 use Rattle.answers.specs.declared.Answer.{Answer}
 use Rattle.answers.specs.Numbers.{numberOf}
 use Rattle.take.specs.declared.Take.{Take}
-use Rattle.take.specs.declared.Tally.{Tally}
+use Rattle.take.specs.declared.Outcome.{Outcome}
 use Rattle.take.specs.declared.Followed.{Followed}
 use Rattle.take.specs.Tally.{countOf, raisedOf}
-use Rattle.take.specs.Follow.{followOf, followedTrack}
-use Rattle.firmware.specs.Kept.{takeBytes, takeOf}
-use Rattle.firmware.specs.Face.{tallyOf, followedFor, laidFor, keptAfter}
+use Rattle.take.specs.Follow.{answerOf, followedBy, outcomeOf, followOf, followedTrack}
+use Rattle.take.proofs.Following.{tallied}
+use Rattle.recorder.specs.Answered.{tallyOf}
+use Rattle.firmware.specs.Kept.{tailOf, takeBytes, takeOf}
+use Rattle.firmware.specs.Face.{followedFor, laidFor, keptAfter}
+use Rattle.firmware.proofs.Keeping.{tail-alone}
 
 -- ---- one count
 
@@ -26,30 +35,43 @@ module _ (counts : List ℕ) (a : Answer) (i : ℕ) (e : i ≡ countOf a) where
 
 -- ---- following
 
-module _ (kept counts d track : List ℕ) (address : ℕ) (t : Take) (w : Tally) (f : Followed) (n : ℕ) (et : t ≡ takeOf kept)
-    (ef : f ≡ followOf t w address d track) (q : n ≡ numberOf (f .answer)) where
+-- a take that is followed keeps its name
+name-kept : (t : Take) (address : ℕ) (d track : List ℕ) → outcomeOf t address d track .take .name ≡ t .name
+unfolding outcomeOf followOf
+name-kept t address d track =
+    by-test (λ b. (choose b (followedBy t (headerOf d)) t) .name ≡ t .name) (eqb (numberOf (answerOf t address d (recordsHeld track))) 0) (λ e. refl) (λ e. refl)
+
+pub loaded-name : (kept : List ℕ) (t : Take) → t ≡ takeOf kept → take 16 kept ≡ t .name
+unfolding takeOf
+loaded-name kept t e = rw e
+
+module _ (kept counts d track : List ℕ) (address : ℕ) (t : Take) (o : Outcome) (n : ℕ) (et : t ≡ takeOf kept) (eo : o ≡ outcomeOf t address d track)
+    (q : n ≡ numberOf (o .answer)) where
   abbrev told : Followed
   told = followedFor kept counts address d track
 
-  -- what came back whatever tally went in, with the one that the caller's counts give
-  same : record { answer = f .answer; place = f .place; frames = f .frames; skipped = f .skipped; take = f .take; tally = raisedOf (tallyOf counts) (f .answer) } ≡ told
-  unfolding followOf
-  same = rw (ef, et)
+  -- the outcome, with the tally that the caller's counts give
+  same : record { answer = o .answer; place = o .place; frames = o .frames; skipped = o .skipped; take = o .take; tally = raisedOf (tallyOf counts) (o .answer) } ≡ told
+  same = tallied t (tallyOf counts) address d track o eo (raisedOf (tallyOf counts) (o .answer)) refl ∙ rw et
 
   number-is : n ≡ numberOf (told .answer)
   number-is = q ∙ ap (λ (x : Followed). numberOf (x .answer)) same
 
   module _ (track' kept' counts' : List ℕ) (p : track' ≡ followedTrack t address d track) (k : kept' ≡ keptAfter kept told)
-      (c : counts' ≡ raisedOf (tallyOf counts) (f .answer) .counts) where
-    pub told-all : (n ≡ numberOf (told .answer)) × ((laidFor f ≡ laidFor told) × ((kept' ≡ keptAfter kept told)
+      (c : counts' ≡ raisedOf (tallyOf counts) (o .answer) .counts) where
+    pub told-all : (n ≡ numberOf (told .answer)) × ((o .place ∷ o .frames ∷ o .skipped ∷ [] ≡ laidFor told) × ((kept' ≡ keptAfter kept told)
         × ((counts' ≡ told .tally .counts) × (track' ≡ followedTrack (takeOf kept) address d track))))
     told-all = (
       number-is,
       (ap laidFor same, (k, (c ∙ ap (λ (x : Followed). x .tally .counts) same, p ∙ ap (λ (x : Take). followedTrack x address d track) et))),
     )
 
-  pub kept-new : (kept' : List ℕ) → n ≡ 0 → kept' ≡ takeBytes (f .take) → kept' ≡ keptAfter kept told
-  kept-new kept' z e = e ∙ ap (λ (x : Followed). takeBytes (x .take)) same ∙ rw (← number-is, z)
+  named : o .take .name ≡ take 16 kept
+  named = ap (λ (x : Outcome). x .take .name) eo ∙ name-kept t address d track ∙ sym (loaded-name kept t et)
+
+  pub kept-new : length kept ≡ 40 → (kept' : List ℕ) → n ≡ 0 → kept' ≡ put kept 16 (tailOf (o .take)) → kept' ≡ keptAfter kept told
+  kept-new forty kept' z e =
+      e ∙ tail-alone (o .take) kept forty named ∙ ap (λ (x : Followed). takeBytes (x .take)) same ∙ rw (← number-is, z)
 
   pub kept-old : (n ≡ 0 → ⊥) → kept ≡ keptAfter kept told
   kept-old z = rw (← number-is, ne-eqb n 0 z)

@@ -1,12 +1,12 @@
 -- A take's bytes read and written, on plain values.
 use mathlib.Core.Path.{_≡_, refl, sym, _∙_}
 use mathlib.Core.Bool.{not}
-use mathlib.Core.List.{List, _++_, append-assoc}
+use mathlib.Core.List.{List, [], _++_, append-assoc}
 use Prim.Native.Nat.{ℕ, _+_, _*_, _/_, _%_, _^_, _≤_, zero-le}
 use native.Mathlib.Nat.{zero-add}
 use native.Mathlib.Omega.{arith}
 use lib.Dec.{eqb}
-use lib.ListN.{length, take, drop, replicate, length-append}
+use lib.ListN.{length, take, drop, replicate, length-append, length-drop, drop-of-length-le}
 use lib.Seq.{length-take-le}
 use Rattle.lists.specs.Lists.{byte, put}
 use Rattle.lists.proofs.Lists.{put-more, put-whole, copied-whole}
@@ -66,3 +66,10 @@ module _ (t : Take) (kept : List ℕ) (forty : length kept ≡ 40) where
   take-stored o₁ o₂ sixteen p q =
       let l : length (t .name ++ tailOf t) ≡ 40 = length-append (t .name) (tailOf t) ∙ rw sixteen in
       q ∙ rw (p, ← sixteen, ← zero-add (length (t .name))) (put-more kept (t .name) (tailOf t) 0 zero-le) ∙ put-whole kept (t .name ++ tailOf t) (forty ∙ sym l)
+
+-- where the name stays, the bytes after it are all that is written
+pub tail-alone : (t : Take) (kept : List ℕ) → length kept ≡ 40 → t .name ≡ take 16 kept → put kept 16 (tailOf t) ≡ takeBytes t
+unfolding put takeBytes
+tail-alone t kept forty e =
+    let z : drop 24 (drop 16 kept) ≡ [] = drop-of-length-le (drop 16 kept) {i = 24} (rw (length-drop 16 kept) (omega (arith, forty))) in
+    rw (z, e)

@@ -6,9 +6,9 @@ use lib.Dec.{ltb, eqb}
 use Rattle.lists.specs.Tables.{choose}
 use Rattle.answers.specs.Numbers.{numberOf}
 use Rattle.wire.specs.declared.header.Header.{Header}
-use Rattle.take.specs.declared.Tally.{Tally}
 use Rattle.take.specs.declared.Followed.{Followed}
 use Rattle.take.specs.Follow.{followOf}
+use Rattle.recorder.specs.Answered.{tallyOf}
 use Rattle.firmware.specs.Kept.{takeOf, takeBytes}
 
 -- a header's numbers in the order of the C header
@@ -19,10 +19,6 @@ fieldsOf h = h .rate ∷ h .frames ∷ h .channels ∷ h .format ∷ h .counter 
 abbrev pub headerFrom : ℕ → ℕ → ℕ → ℕ → List ℕ → ℕ → Header
 headerFrom rate frames channels format name counter =
     record { rate = rate; frames = frames; channels = channels; format = format; name = name; counter = counter }
-
--- the tally of a caller's counts
-abbrev pub tallyOf : List ℕ → Tally
-tallyOf counts = record { counts = counts }
 
 -- following, by the bytes and counts that the caller keeps
 abbrev pub followedFor : List ℕ → List ℕ → ℕ → List ℕ → List ℕ → Followed

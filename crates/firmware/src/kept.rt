@@ -4,7 +4,6 @@ ghost use Prim.Native.Nat.{_+_, _*_, _^_, _≤_};
 ghost use lib.ListN.{length, take as takeFirst};
 ghost use Rattle.lists.specs.Lists.{put};
 ghost use Rattle.lists.specs.Tables.{choose};
-ghost use Rattle.wire.specs.Header.{fourAt};
 ghost use Rattle.firmware.specs.Kept.{shapeOf, newestOf, tailOf, takeBytes, twoAt, takeOf};
 use take::Take;
 
@@ -20,14 +19,6 @@ fn half(kept: &[u8], i: usize) -> u16
     ensures { λ r. ⌜ r ≡ twoAt (now (kept .entry)) i ⌝ }
 {
     join(kept[i], kept[i + 1])
-}
-
-// Four bytes as a number.
-fn word(kept: &[u8], i: usize) -> u32
-    requires { ⌜ i + 4 ≤ length (now kept) ⌝ }
-    ensures { λ r. ⌜ r ≡ fourAt (now (kept .entry)) i ⌝ }
-{
-    wire::bits::join_counter(kept[i], kept[i + 1], kept[i + 2], kept[i + 3])
 }
 
 // Eight bytes, as two words.
@@ -53,14 +44,14 @@ pub(crate) fn load(kept: &[u8]) -> Take
 {
     take::open::made(
         name(kept),
-        word(kept, 16),
+        wire::bits::four_at(kept, 16),
         kept[20] != 0,
         kept[21],
         half(kept, 24),
         kept[22],
         half(kept, 26),
-        word(kept, 28),
-        place(word(kept, 32), word(kept, 36)),
+        wire::bits::four_at(kept, 28),
+        place(wire::bits::four_at(kept, 32), wire::bits::four_at(kept, 36)),
     )
 }
 
@@ -102,7 +93,7 @@ fn store_newest(t: Take, kept: &mut [u8])
 }
 
 // The bytes after the name.
-fn store_tail(t: Take, kept: &mut [u8])
+pub(crate) fn store_tail(t: Take, kept: &mut [u8])
     requires { ⌜ length (now kept) ≡ 40 ⌝ }
     ensures { λ _. ⌜ now (kept .exit) ≡ put (now (kept .entry)) 16 (tailOf t) ⌝ }
 {

@@ -10,8 +10,9 @@ ghost use Rattle.take.specs.Tally.{cleared, raisedOf};
 ghost use Rattle.take.specs.Follow.{followedTrack};
 ghost use Rattle.cutter.specs.Largest.{largestOf};
 ghost use Rattle.cutter.specs.Cut.{cutOf, cutOutput};
+ghost use Rattle.recorder.specs.Answered.{tallyOf};
 ghost use Rattle.firmware.specs.Kept.{takeBytes, takeOf};
-ghost use Rattle.firmware.specs.Face.{fieldsOf, headerFrom, tallyOf, followedFor, laidFor, keptAfter, countFor};
+ghost use Rattle.firmware.specs.Face.{fieldsOf, headerFrom, followedFor, laidFor, keptAfter, countFor};
 use answers::Answer;
 use wire::header::Header;
 
@@ -133,16 +134,16 @@ pub extern "C" fn tashmirok_cut(
     ensures { λ _. ⌜ now (out .exit) ≡ cutOutput (headerFrom rate frames channels format (now (name .entry)) start) (now (track .entry)) k (now (out .entry)) ⌝ }
     ensures { λ _. ⌜ now (written .exit) ≡ cutOf (headerFrom rate frames channels format (now (name .entry)) start) (now (track .entry)) k (now (out .entry)) .length ⌝ }
 {
-    let name = *name;
     let header = Header {
         rate,
         frames,
         channels,
         format,
-        name,
+        name: *name,
         counter: start,
     };
-    let made = recorder::cut(header, track, k, out);
+    let field = &name[..];
+    let made = cutter::cut::cut_named(field, header, track, k, out);
     *written = made.length;
     let answer = made.answer;
     answers::number_made(answer)
@@ -229,21 +230,17 @@ pub extern "C" fn tashmirok_follow(
     ensures { λ _. ⌜ now (tally .exit) ≡ followedFor (now (kept .entry)) (now (tally .entry)) address (now (datagram .entry)) (now (track .entry)) .tally .counts ⌝ }
     ensures { λ _. ⌜ now (track .exit) ≡ followedTrack (takeOf (now (kept .entry))) address (now (datagram .entry)) (now (track .entry)) ⌝ }
 {
-    // The tally that goes in is not the caller's, and what comes out is not used: the caller's is raised where it stands.
-    let f = recorder::follow(
-        kept::load(kept),
-        recorder::tally(),
-        address,
-        datagram,
-        track,
-    );
-    let answer = f.answer;
+    // A take that is followed keeps its name, so the bytes after it are all that can change.
+    let t = kept::load(kept);
+    let bytes = &kept[..];
+    let o = take::follow::outcome(&bytes[..16], t, address, datagram, track);
+    let answer = o.answer;
     raise(tally, answer);
-    *laid = [f.place as u64, f.frames as u64, f.skipped as u64];
+    *laid = [o.place as u64, o.frames as u64, o.skipped as u64];
     let number = answers::number(answer);
     if number == 0 {
-        let take = f.take;
-        kept::store(take, kept);
+        let followed = o.take;
+        kept::store_tail(followed, kept);
     }
     number
 }

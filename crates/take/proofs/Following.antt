@@ -1,5 +1,5 @@
 -- What follow, lay and open put together, on plain values: a premise is what a callee ensures or a test says.
-use mathlib.Core.Path.{_≡_, sym, ap, _∙_}
+use mathlib.Core.Path.{_≡_, refl, sym, ap, _∙_}
 use mathlib.Core.Bool.{Bool, true, false, not}
 use mathlib.Core.List.{List}
 use Prim.Native.Nat.{ℕ, _+_, _*_, _^_, _≤_, _<_}
@@ -19,14 +19,16 @@ use Rattle.samples.specs.declared.Indexed.the-variants.{Known, Unknown}
 use Rattle.samples.specs.Formats.{indexed, sizeOf, sizeKnown}
 use Rattle.wire.specs.declared.header.Header.{Header}
 use Rattle.wire.specs.Names.{goodName, keptName}
-use Rattle.wire.specs.Header.{headerOf, dataSize}
+use Rattle.wire.specs.Header.{headerOf, unnamed, dataSize}
 use Rattle.track.specs.Records.{recordsHeld, clearedOf, laidOf, packetSlot}
 use Rattle.take.specs.declared.Take.{Take}
 use Rattle.take.specs.declared.Tally.{Tally}
+use Rattle.take.specs.declared.Outcome.{Outcome}
+use Rattle.take.specs.declared.Followed.{Followed}
 use Rattle.take.specs.declared.follow.Judged.{Judged}
 use Rattle.take.specs.Take.{noTake, openOf, openedTrack}
-use Rattle.take.specs.Tally.{raisedOf}
-use Rattle.take.specs.Follow.{placeOf, skippedOf, late, followRows, answerOf, judgedOf, followedBy, followOf, laidKnown, followedTrack}
+use Rattle.take.specs.Tally.{cleared as clear-tally, raisedOf}
+use Rattle.take.specs.Follow.{placeOf, skippedOf, late, followRows, answerOf, judgedOf, followedBy, acceptedBy, outcomeOf, followOf, laidKnown, followedTrack}
 use Rattle.take.proofs.Exactly.{refused-track, follow-track, follow-refused, follow-accepted}
 
 -- ---- a packet's records
@@ -60,7 +62,16 @@ module _ (t : Take) (address : ℕ) (d : List ℕ) (held : ℕ) (e : answerOf t 
       let r = passed .1 .1 .1 .1 .1 .1 .1 .1 .1 .1 .1 in
       (r .0, r .1 .0, r .1 .1 .1 .0, r .1 .1 .1 .1 .0)
 
-module _ (t : Take) (tally : Tally) (address : ℕ) (d track : List ℕ) (held : ℕ) (eh : held ≡ recordsHeld track) (j : Judged) (ej : j ≡ judgedOf t address d held)
+-- no record looks at a header's name
+laid-unnamed : (i : Indexed) (d : List ℕ) (h : Header) (place : ℕ) (track : List ℕ) → laidKnown i d (unnamed h) place track ≡ laidKnown i d h place track
+laid-unnamed (Known f) d h place track = refl
+laid-unnamed Unknown d h place track = refl
+
+-- what following gives, without the tally
+abbrev untallied : Followed → Outcome
+untallied f = record { answer = f .answer; place = f .place; frames = f .frames; skipped = f .skipped; take = f .take }
+
+module _ (t : Take) (address : ℕ) (d track : List ℕ) (held : ℕ) (eh : held ≡ recordsHeld track) (j : Judged) (ej : j ≡ judgedOf t address d held)
     (n : ℕ) (q : n ≡ numberOf (j .answer)) where
   answer-is : j .answer ≡ answerOf t address d (recordsHeld track)
   unfolding judgedOf
@@ -70,9 +81,9 @@ module _ (t : Take) (tally : Tally) (address : ℕ) (d track : List ℕ) (held :
     refusal : (answerOf t address d (recordsHeld track) ≡ Accepted) → ⊥
     refusal x = refuses (j .answer) n q z (answer-is ∙ x)
 
-    pub refused-followed : (w : Tally) → w ≡ raisedOf tally (j .answer)
-        → record { answer = j .answer; place = 0; frames = 0; skipped = 0; take = t; tally = w } ≡ followOf t tally address d track
-    refused-followed w p = rw (p, answer-is) (sym (follow-refused t address d track tally refusal))
+    pub refused-outcome : record { answer = j .answer; place = 0; frames = 0; skipped = 0; take = t } ≡ outcomeOf t address d track
+    unfolding outcomeOf
+    refused-outcome = rw answer-is (sym (ap untallied (follow-refused t address d track clear-tally refusal)))
 
     pub refused-left : track ≡ followedTrack t address d track
     refused-left = sym (refused-track t address d track refusal)
@@ -81,12 +92,16 @@ module _ (t : Take) (tally : Tally) (address : ℕ) (d track : List ℕ) (held :
     pass : answerOf t address d (recordsHeld track) ≡ Accepted
     pass = sym answer-is ∙ accepts (j .answer) n q z
 
-    header-is : j .header ≡ headerOf d
+    header-is : j .header ≡ unnamed (headerOf d)
     unfolding judgedOf
     header-is = ap (λ (x : Judged). x .header) ej ∙ rw (eh, pass)
 
     fits : placeOf t (headerOf d) + headerOf d .frames ≤ recordsHeld track
     fits = ltb-false _ _ (after-audio t address d (recordsHeld track) pass .3)
+
+    -- what the packet's own functions ask
+    pub not-late : late t (j .header) ≡ false
+    not-late = rw header-is (after-audio t address d (recordsHeld track) pass .2)
 
     pub place-fits : length track < 2 ^ 64 → placeOf t (j .header) < 2 ^ 64
     place-fits l = rw header-is (omega (arith, fits))
@@ -97,21 +112,47 @@ module _ (t : Take) (tally : Tally) (address : ℕ) (d track : List ℕ) (held :
     pub exact-length : length d ≡ 28 + dataSize (j .header)
     exact-length = rw header-is (like-by _ _ (after-audio t address d (recordsHeld track) pass .0))
 
-    pub place-room : (p : ℕ) → p ≡ placeOf t (j .header) → p + j .header .frames ≤ recordsHeld track
-    place-room p e = rw (e, header-is) fits
+    pub place-room : placeOf t (j .header) + j .header .frames ≤ recordsHeld track
+    place-room = rw header-is fits
 
-    pub not-late : late t (j .header) ≡ false
-    not-late = rw header-is (after-audio t address d (recordsHeld track) pass .2)
+    pub first-room : t .begun ≡ false → j .header .frames ≤ recordsHeld track
+    first-room b = omega (arith, place-room)
 
-    pub accepted-followed : (p s : ℕ) (k : Take) (w : Tally) → p ≡ placeOf t (j .header) → s ≡ skippedOf t (j .header) → k ≡ followedBy t (j .header)
-        → w ≡ raisedOf tally (j .answer)
-        → record { answer = j .answer; place = p; frames = j .header .frames; skipped = s; take = k; tally = w } ≡ followOf t tally address d track
-    accepted-followed p s k w ep es ek ew =
-        rw (ep, es, ek, ew, header-is, accepts (j .answer) n q z) (sym (follow-accepted t address d track tally pass))
+    pub accepted-outcome : (o : Outcome) → o ≡ acceptedBy t (j .header) → o ≡ outcomeOf t address d track
+    unfolding outcomeOf
+    accepted-outcome o e = e ∙ rw header-is (sym (ap untallied (follow-accepted t address d track clear-tally pass)))
 
-    pub accepted-laid : (p : ℕ) (after : List ℕ) → p ≡ placeOf t (j .header) → after ≡ laidKnown (indexed (j .header .format)) d (j .header) p track
+    pub accepted-laid : (after : List ℕ) → after ≡ laidKnown (indexed (j .header .format)) d (j .header) (placeOf t (j .header)) track
         → after ≡ followedTrack t address d track
-    accepted-laid p after ep ea = ea ∙ rw (ep, header-is) (sym (follow-track t address d track pass))
+    accepted-laid after ea =
+        ea
+        ∙ rw (header-is, laid-unnamed (indexed (headerOf d .format)) d (headerOf d) (placeOf t (headerOf d)) track)
+        (sym (follow-track t address d track pass))
+
+-- a first packet's place is 0, and nothing was skipped
+module _ (t : Take) (h : Header) (b : t .begun ≡ false) where
+  pub at-zero : 0 ≡ placeOf t h
+  at-zero = rw b
+
+  pub first-accepted : (k : Take) → k ≡ followedBy t h → record { answer = Accepted; place = 0; frames = h .frames; skipped = 0; take = k } ≡ acceptedBy t h
+  first-accepted k e = rw (e, b)
+
+  pub first-laid : (d track after : List ℕ) → after ≡ laidKnown (indexed (h .format)) d h 0 track → after ≡ laidKnown (indexed (h .format)) d h (placeOf t h) track
+  first-laid d track after q = q ∙ ap (λ (x : ℕ). laidKnown (indexed (h .format)) d h x track) at-zero
+
+module _ (t : Take) (h : Header) (p : ℕ) (e : p ≡ placeOf t h) where
+  pub next-accepted : (s : ℕ) (k : Take) → s ≡ skippedOf t h → k ≡ followedBy t h
+      → record { answer = Accepted; place = p; frames = h .frames; skipped = s; take = k } ≡ acceptedBy t h
+  next-accepted s k u v = rw (e, u, v)
+
+  pub next-laid : (d track after : List ℕ) → after ≡ laidKnown (indexed (h .format)) d h p track → after ≡ laidKnown (indexed (h .format)) d h (placeOf t h) track
+  next-laid d track after q = q ∙ rw e
+
+-- the tally is raised by the answer, and nothing else looks at it
+pub tallied : (t : Take) (tally : Tally) (address : ℕ) (d track : List ℕ) (o : Outcome) → o ≡ outcomeOf t address d track → (w : Tally) → w ≡ raisedOf tally (o .answer)
+    → record { answer = o .answer; place = o .place; frames = o .frames; skipped = o .skipped; take = o .take; tally = w } ≡ followOf t tally address d track
+unfolding outcomeOf followOf
+tallied t tally address d track o e w p = rw (p, e)
 
 -- ---- opening
 

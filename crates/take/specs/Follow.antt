@@ -7,23 +7,24 @@ use lib.Dec.{ltb, eqb}
 use Rattle.lists.specs.Tables.{Row, row, choose, first, any, unlike}
 use Rattle.lists.specs.Rules.{Rules, done, rule}
 use Rattle.answers.specs.declared.Answer.{Answer}
-use Rattle.answers.specs.declared.Answer.the-variants.{Accepted, OtherStream, Channels, Shape, Late, Beyond, State}
+use Rattle.answers.specs.declared.Answer.the-variants.{Accepted, Name, OtherStream, Channels, Shape, Late, Beyond, State}
 use Rattle.answers.specs.Numbers.{numberOf}
 use Rattle.samples.specs.declared.Indexed.{Indexed}
 use Rattle.samples.specs.declared.Indexed.the-variants.{Known, Unknown}
 use Rattle.samples.specs.Formats.{indexed}
 use Rattle.wire.specs.declared.header.Header.{Header}
-use Rattle.wire.specs.Names.{nameOf, sameName}
-use Rattle.wire.specs.Header.{fieldOf, headerOf, noHeader}
+use Rattle.wire.specs.Names.{nameOf, goodName, sameName}
+use Rattle.wire.specs.Header.{fieldOf, headerOf, unnamed, noHeader}
 use Rattle.wire.specs.Read.{frontRows, audioRows, Readable, frontRules, audioRules}
 use Rattle.track.specs.Records.{recordsHeld, laidOf, packetSlot}
 use Rattle.take.specs.declared.Take.{Take}
 use Rattle.take.specs.declared.Tally.{Tally}
+use Rattle.take.specs.declared.Outcome.{Outcome}
 use Rattle.take.specs.declared.Followed.{Followed}
 use Rattle.take.specs.declared.follow.Judged.{Judged}
 use Rattle.take.specs.Counter.{away, newer}
 use Rattle.take.specs.Take.{badState, GoodState}
-use Rattle.take.specs.Tally.{raisedOf}
+use Rattle.take.specs.Tally.{cleared, raisedOf}
 
 -- ---- places
 
@@ -44,6 +45,10 @@ skippedOf t h = choose (t .begun) (distance t h - 1) 0
 -- 5: name or address isn't the take's
 abbrev pub otherStream : Take → ℕ → List ℕ → Bool
 otherStream t address d = any (not (sameName (t .name) (fieldOf d)) ∷ unlike address (t .address) ∷ [])
+
+-- 4 and the name's part of 5, by the take's name and a datagram's
+abbrev pub namedRows : List ℕ → List ℕ → List (Row Answer)
+namedRows name field = row Name (not (goodName field)) ∷ row OtherStream (not (sameName name field)) ∷ []
 
 -- 13, once begun: rate, channels or type differ, or over N frames
 abbrev pub otherKind : Take → Header → Bool
@@ -88,13 +93,17 @@ followedBy t h = record {
   place = placeOf t h;
 }
 
+-- what acceptance answers
+abbrev pub acceptedBy : Take → Header → Outcome
+acceptedBy t h = record { answer = Accepted; place = placeOf t h; frames = h .frames; skipped = skippedOf t h; take = followedBy t h }
+
 unfoldable pub answerOf : Take → ℕ → List ℕ → ℕ → Answer
 answerOf t address d held = first Accepted (followRows t address d held)
 
--- the answer, and the header where all checks pass
+-- the answer, and the header's numbers where all checks pass
 unfoldable pub judgedOf : Take → ℕ → List ℕ → ℕ → Judged
 judgedOf t address d held =
-    record { answer = answerOf t address d held; header = choose (eqb (numberOf (answerOf t address d held)) 0) (headerOf d) noHeader }
+    record { answer = answerOf t address d held; header = choose (eqb (numberOf (answerOf t address d held)) 0) (unnamed (headerOf d)) noHeader }
 
 -- acceptance answers place, frames and skipped count, a refusal zeros; a refusal leaves the take; the tally moves either way
 abbrev pub followAnswered : Answer → Take → Tally → Header → Followed
@@ -110,6 +119,12 @@ followAnswered a t tally h =
 
 unfoldable pub followOf : Take → Tally → ℕ → List ℕ → List ℕ → Followed
 followOf t tally address d track = followAnswered (answerOf t address d (recordsHeld track)) t tally (headerOf d)
+
+-- the same without the tally
+unfoldable pub outcomeOf : Take → ℕ → List ℕ → List ℕ → Outcome
+outcomeOf t address d track =
+    let f = followOf t cleared address d track in
+    record { answer = f .answer; place = f .place; frames = f .frames; skipped = f .skipped; take = f .take }
 
 -- a packet's records, by the type's index
 abbrev pub laidKnown : Indexed → List ℕ → Header → ℕ → List ℕ → List ℕ

@@ -1,17 +1,19 @@
 // Following a take, by value.
 ghost use mathlib.Core.Path.{_≡_};
-ghost use mathlib.Core.Bool.{false};
+ghost use mathlib.Core.Bool.{true, false};
 ghost use Prim.Native.Nat.{_+_, _^_, _≤_, _<_};
 ghost use lib.Dec.{ltb};
 ghost use lib.ListN.{length};
 ghost use Rattle.lists.specs.Tables.{first};
 ghost use Rattle.answers.specs.declared.Answer.the-variants.{Accepted};
 ghost use Rattle.samples.specs.Formats.{indexed};
+ghost use Rattle.wire.specs.Names.{goodName};
 ghost use Rattle.wire.specs.Header.{noHeader, dataSize};
 ghost use Rattle.track.specs.Records.{recordsHeld};
 ghost use Rattle.take.specs.Take.{badShape, badState};
-ghost use Rattle.take.specs.Follow.{placeOf, skippedOf, otherKind, changedShape, late, takeRows, streamRows, judgedOf, followedBy, followOf, laidKnown, followedTrack};
+ghost use Rattle.take.specs.Follow.{placeOf, skippedOf, otherKind, changedShape, late, namedRows, takeRows, streamRows, judgedOf, followedBy, acceptedBy, outcomeOf, followOf, laidKnown, followedTrack};
 use crate::Followed;
+use crate::Outcome;
 use crate::Take;
 use crate::Tally;
 use answers::Answer;
@@ -40,11 +42,12 @@ fn bad_shape(channels: u16, frames: u16, rate: u8, format: u8) -> bool
     !Format::may_read(format)
 }
 
-fn bad_state(t: Take) -> bool
+// The take's name comes beside the take, so that it need not be copied out of it.
+fn bad_state(name: &[u8], t: Take) -> bool
+    requires { ⌜ now name ≡ t .name ⌝ }
     ensures { λ r. ⌜ r ≡ badState t ⌝ }
 {
-    let name = t.name;
-    if !wire::name::good(&name) {
+    if !wire::name::good(name) {
         return true;
     }
     if t.begun {
@@ -53,20 +56,38 @@ fn bad_state(t: Take) -> bool
     false
 }
 
+// Row 4 and the name's part of row 5. What has the very bytes of a good name is good, and the same.
+fn name_refusal(name: &[u8], field: &[u8]) -> Answer
+    requires { ⌜ (goodName (now name) ≡ true) × (length (now name) ≡ 16) × (length (now field) ≡ 16) ⌝ }
+    ensures { λ r. ⌜ r ≡ first Accepted (namedRows (now (name .entry)) (now (field .entry))) ⌝ }
+{
+    if wire::name::equal(name, field) {
+        return Answer::Accepted;
+    }
+    if !wire::name::good(field) {
+        return Answer::Name;
+    }
+    if !wire::name::same(name, field) {
+        return Answer::OtherStream;
+    }
+    Answer::Accepted
+}
+
 // Rows 16 and 1 to 5.
-fn stream_refusal(t: Take, address: u32, d: &[u8]) -> Answer
+fn stream_refusal(name: &[u8], t: Take, address: u32, d: &[u8]) -> Answer
+    requires { ⌜ (now name ≡ t .name) × (length (now name) ≡ 16) ⌝ }
     ensures { λ r. ⌜ r ≡ first Accepted (streamRows t address (now (d .entry))) ⌝ }
 {
-    if bad_state(t) {
+    if bad_state(name, t) {
         return Answer::State;
     }
-    let a = wire::read::front_refusal(d);
+    let a = wire::read::lead_refusal(d);
     if answers::number(a) != 0 {
         return a;
     }
-    let ours = t.name;
-    if !wire::name::same(&ours, &d[8..24]) {
-        return Answer::OtherStream;
+    let b = name_refusal(name, &d[8..24]);
+    if answers::number(b) != 0 {
+        return b;
     }
     if address != t.address {
         return Answer::OtherStream;
@@ -157,10 +178,11 @@ fn refused(a: Answer) -> Judged
 }
 
 // All rows in order.
-fn judge(t: Take, address: u32, d: &[u8], held: usize) -> Judged
+fn judge(name: &[u8], t: Take, address: u32, d: &[u8], held: usize) -> Judged
+    requires { ⌜ (now name ≡ t .name) × (length (now name) ≡ 16) ⌝ }
     ensures { λ r. ⌜ r ≡ judgedOf t address (now (d .entry)) held ⌝ }
 {
-    let a = stream_refusal(t, address, d);
+    let a = stream_refusal(name, t, address, d);
     if answers::number(a) != 0 {
         return refused(a);
     }
@@ -168,7 +190,7 @@ fn judge(t: Take, address: u32, d: &[u8], held: usize) -> Judged
     if answers::number(b) != 0 {
         return refused(b);
     }
-    let header = wire::header::fields(d);
+    let header = wire::header::numbers(d);
     let e = take_refusal(t, header, held);
     if answers::number(e) != 0 {
         return refused(e);
@@ -250,33 +272,79 @@ fn lay(h: Header, d: &[u8], place: usize, track: &mut [u8])
     );
 }
 
-// Judges a datagram, raises its answer's count and, where it is accepted, lays its records down.
-pub fn follow(take: Take, tally: Tally, address: u32, datagram: &[u8], track: &mut [u8]) -> Followed
-    ensures { λ r. ⌜ r ≡ followOf take tally address (now (datagram .entry)) (now (track .entry)) ⌝ }
+// A first packet, which lies at place 0.
+fn begin(t: Take, h: Header, d: &[u8], track: &mut [u8]) -> Outcome
+    requires { ⌜ (t .begun ≡ false) × (h .channels ≤ 8) × (length (now d) ≡ 28 + dataSize h) × (h .frames ≤ recordsHeld (now track)) ⌝ }
+    ensures { λ r. ⌜ r ≡ acceptedBy t h ⌝ }
+    ensures { λ _. ⌜ now (track .exit) ≡ laidKnown (indexed (h .format)) (now (d .entry)) h (placeOf t h) (now (track .entry)) ⌝ }
+{
+    lay(h, d, 0, track);
+    Outcome {
+        answer: Answer::Accepted,
+        place: 0,
+        frames: h.frames,
+        skipped: 0,
+        take: followed_by(t, h, 0),
+    }
+}
+
+// A later packet. As two functions lay, the compiler keeps the loops that lay a function of their own, with the machine's
+// registers to themselves.
+fn go_on(t: Take, h: Header, d: &[u8], track: &mut [u8]) -> Outcome
+    requires { ⌜ (late t h ≡ false) × (placeOf t h < 2 ^ 64) × (h .channels ≤ 8) × (length (now d) ≡ 28 + dataSize h) × (placeOf t h + h .frames ≤ recordsHeld (now track)) ⌝ }
+    ensures { λ r. ⌜ r ≡ acceptedBy t h ⌝ }
+    ensures { λ _. ⌜ now (track .exit) ≡ laidKnown (indexed (h .format)) (now (d .entry)) h (placeOf t h) (now (track .entry)) ⌝ }
+{
+    let place = place_of(t, h);
+    lay(h, d, place, track);
+    Outcome {
+        answer: Answer::Accepted,
+        place,
+        frames: h.frames,
+        skipped: skipped(t, h),
+        take: followed_by(t, h, place),
+    }
+}
+
+// Judges a datagram and, where it is accepted, lays its records down.
+pub fn outcome(name: &[u8], take: Take, address: u32, datagram: &[u8], track: &mut [u8]) -> Outcome
+    requires { ⌜ (now name ≡ take .name) × (length (now name) ≡ 16) ⌝ }
+    ensures { λ r. ⌜ r ≡ outcomeOf take address (now (datagram .entry)) (now (track .entry)) ⌝ }
     ensures { λ _. ⌜ now (track .exit) ≡ followedTrack take address (now (datagram .entry)) (now (track .entry)) ⌝ }
 {
-    let judged = judge(take, address, datagram, track::held(track));
+    let judged = judge(name, take, address, datagram, track::held(track));
     let answer = judged.answer;
-    let raised = crate::counts::raise(tally, answer);
     if answers::number(answer) != 0 {
-        return Followed {
+        return Outcome {
             answer,
             place: 0,
             frames: 0,
             skipped: 0,
             take,
-            tally: raised,
         };
     }
     let header = judged.header;
-    let place = place_of(take, header);
-    lay(header, datagram, place, track);
+    if take.begun {
+        return go_on(take, header, datagram, track);
+    }
+    begin(take, header, datagram, track)
+}
+
+// The same, and the answer's count raised.
+pub fn follow(take: Take, tally: Tally, address: u32, datagram: &[u8], track: &mut [u8]) -> Followed
+    ensures { λ r. ⌜ r ≡ followOf take tally address (now (datagram .entry)) (now (track .entry)) ⌝ }
+    ensures { λ _. ⌜ now (track .exit) ≡ followedTrack take address (now (datagram .entry)) (now (track .entry)) ⌝ }
+{
+    let name = take.name;
+    let o = outcome(&name, take, address, datagram, track);
+    let answer = o.answer;
+    let followed = o.take;
     Followed {
         answer,
-        place,
-        frames: header.frames,
-        skipped: skipped(take, header),
-        take: followed_by(take, header, place),
-        tally: raised,
+        place: o.place,
+        frames: o.frames,
+        skipped: o.skipped,
+        take: followed,
+        tally: crate::counts::raise(tally, answer),
     }
 }

@@ -30,6 +30,15 @@ pub struct Tally {
     pub counts: [u32; 17],
 }
 
+// What following gives, without the tally.
+pub struct Outcome {
+    pub answer: Answer,
+    pub place: usize,
+    pub frames: u16,
+    pub skipped: u32,
+    pub take: Take,
+}
+
 pub struct Followed {
     pub answer: Answer,
     pub place: usize,

@@ -13,7 +13,7 @@ use borrow.Author.Tests.{le-ltb, ltb-false, eq-eqb, ne-eqb, eqb-true, eqb-false}
 use Rattle.bytes.specs.Bytes.{indexOf, indexAfter}
 use Rattle.lists.specs.Tables.{choose}
 use Rattle.lists.proofs.Tables.{by-test, true-false}
-use Rattle.wire.specs.Names.{nameOf, printable, goodName, keptName, sameBytes, sameName, GoodName}
+use Rattle.wire.specs.Names.{nameOf, printable, goodName, charactersOf, keptName, sameBytes, sameName, GoodName}
 
 -- ---- a name, byte by byte
 
@@ -143,6 +143,35 @@ module _ (n : List ℕ) where
         (λ t f g. absurd (g (f refl))) (λ t f g. refl) (good-by h),
   )
 
+-- ---- the rule, by the characters at the front
+
+-- all characters are printable if nothing but a zero or the end comes after those at the front
+stops : (n : List ℕ) → printable (nameOf n) ≡ eqb (getD n (charactersOf n) 0) 0
+unfolding printable charactersOf
+stops [] = rw name-nil
+stops (zero ∷ xs) = rw (name-stop xs)
+stops (suc x ∷ xs) =
+    rw (name-go x xs)
+    (by-test (λ b. choose b false (choose (ltb 0x7E (suc x)) false (printable (nameOf xs))) ≡ eqb (getD (suc x ∷ xs) (choose b 0 (choose (ltb 0x7E (suc x)) 0 (suc (charactersOf xs)))) 0) 0) (ltb (suc x) 0x20)
+    (λ t. sym (eqb·suc-zero x))
+    (λ t.
+    by-test (λ b. choose b false (printable (nameOf xs)) ≡ eqb (getD (suc x ∷ xs) (choose b 0 (suc (charactersOf xs))) 0) 0) (ltb 0x7E (suc x))
+    (λ u. sym (eqb·suc-zero x)) (λ u. stops xs)))
+
+pub good-counted : (n : List ℕ) → goodName n ≡ choose (eqb (charactersOf n) 0) false (eqb (getD n (charactersOf n) 0) 0)
+unfolding goodName charactersOf
+good-counted [] = rw name-nil
+good-counted (zero ∷ xs) = rw (name-stop xs)
+good-counted (suc x ∷ xs) =
+    rw (stops (suc x ∷ xs), name-go x xs, eqb·suc-zero (length (nameOf xs)))
+    (by-test (λ b. eqb (getD (suc x ∷ xs) (choose b 0 (choose (ltb 0x7E (suc x)) 0 (suc (charactersOf xs)))) 0) 0
+    ≡ choose (eqb (choose b 0 (choose (ltb 0x7E (suc x)) 0 (suc (charactersOf xs)))) 0) false (eqb (getD (suc x ∷ xs) (choose b 0 (choose (ltb 0x7E (suc x)) 0 (suc (charactersOf xs)))) 0) 0)) (ltb (suc x) 0x20)
+    (λ t. eqb·suc-zero x)
+    (λ t.
+    by-test (λ b. eqb (getD (suc x ∷ xs) (choose b 0 (suc (charactersOf xs))) 0) 0
+    ≡ choose (eqb (choose b 0 (suc (charactersOf xs))) 0) false (eqb (getD (suc x ∷ xs) (choose b 0 (suc (charactersOf xs))) 0) 0)) (ltb 0x7E (suc x))
+    (λ u. eqb·suc-zero x) (λ u. rw (eqb·suc-zero (charactersOf xs)))))
+
 -- ---- zeros after the name
 
 zeros-name : (k : ℕ) → nameOf (replicate k 0) ≡ []
@@ -181,7 +210,7 @@ kept-good-name n h g = good-exactly (keptName n) (le-of-eq (kept-length n h)) .0
 
 -- ---- the same name
 
-same-bytes : (xs ys : List ℕ) → sameBytes xs ys ≡ true → xs ≡ ys
+pub same-bytes : (xs ys : List ℕ) → sameBytes xs ys ≡ true → xs ≡ ys
 unfolding sameBytes
 same-bytes [] [] = λ e. refl
 same-bytes [] (y ∷ ys) = λ e. absurd (true-false (sym e))

@@ -67,6 +67,10 @@ headerOf d = record {
 abbrev pub noHeader : Header
 noHeader = record { rate = 0; frames = 0; channels = 0; format = 0; name = replicate 16 0; counter = 0 }
 
+-- a header with zeros for its name
+abbrev pub unnamed : Header → Header
+unnamed h = record { rate = h .rate; frames = h .frames; channels = h .channels; format = h .format; name = replicate 16 0; counter = h .counter }
+
 -- the number of data bytes
 abbrev pub dataSize : Header → ℕ
 dataSize h = h .frames * h .channels * sizeAt (h .format)

@@ -1,5 +1,5 @@
 -- Stream names (document 01, "The 28 bytes", Name). Nothing outside this file and its laws looks inside a name.
-use Prim.Native.Nat.{ℕ, _-_, _≤_, _<_}
+use Prim.Native.Nat.{ℕ, suc, _-_, _≤_, _<_}
 use mathlib.Core.List.{List, [], _∷_, _++_}
 use mathlib.Core.Bool.{Bool, true, false}
 use lib.ListN.{length, getD, take, replicate}
@@ -19,6 +19,11 @@ printable (x ∷ xs) = choose (ltb x 0x20) false (choose (ltb 0x7E x) false (pri
 -- a character at least, and each printable
 unfoldable pub goodName : List ℕ → Bool
 goodName n = choose (eqb (length (nameOf n)) 0) false (printable (nameOf n))
+
+-- the characters that stand at the front, a name's or not: the bytes before the first that no name has
+unfoldable pub charactersOf : List ℕ → ℕ
+charactersOf [] = 0
+charactersOf (x ∷ xs) = choose (ltb x 0x20) 0 (choose (ltb 0x7E x) 0 (suc (charactersOf xs)))
 
 -- the name's characters, and zeros filling 16 bytes
 unfoldable pub keptName : List ℕ → List ℕ

@@ -2,6 +2,7 @@
 use Prim.Native.Nat.{ℕ, _+_, _*_, _≤_}
 use mathlib.Core.Path.{_≡_}
 use mathlib.Core.List.{List, [], _∷_, _++_}
+use mathlib.Core.Bool.{not}
 use lib.ListN.{length, take}
 use lib.Dec.{ltb, eqb}
 use Rattle.lists.specs.Lists.{byte}
@@ -12,13 +13,19 @@ use Rattle.answers.specs.declared.Answer.the-variants.{Accepted, Short, Long, F
 use Rattle.answers.specs.Numbers.{numberOf}
 use Rattle.samples.specs.Formats.{sizeAt}
 use Rattle.wire.specs.declared.read.ReadAnswer.{ReadAnswer}
-use Rattle.wire.specs.Names.{GoodName}
-use Rattle.wire.specs.Header.{subBits, codecBits, reservedBit, rateBits, formatBits, fieldOf, headerOf, noHeader, dataSize, markRows, fieldRows}
+use Rattle.wire.specs.Names.{goodName, GoodName}
+use Rattle.wire.specs.Header.{subBits, codecBits, reservedBit, rateBits, formatBits, fieldOf, headerOf, noHeader, dataSize, foreign, fieldRows}
 
--- ---- the front: rows 1 to 4 and the name
+-- ---- the front: rows 1 to 3, and row 4
+
+abbrev pub leadRows : List ℕ → List (Row Answer)
+leadRows d = row Short (ltb (length d) 28) ∷ row Long (ltb 1464 (length d)) ∷ row Foreign (foreign d) ∷ []
+
+abbrev pub nameRows : List ℕ → List (Row Answer)
+nameRows d = row Name (not (goodName (fieldOf d))) ∷ []
 
 abbrev pub frontRows : List ℕ → List (Row Answer)
-frontRows d = row Short (ltb (length d) 28) ∷ row Long (ltb 1464 (length d)) ∷ markRows d
+frontRows d = leadRows d ++ nameRows d
 
 -- ---- reading
 

@@ -1,7 +1,8 @@
 // The bits of bytes 4 and 7, and the counter's four bytes.
 ghost use mathlib.Core.Path.{_≡_};
-ghost use Prim.Native.Nat.{_+_, _*_, _<_};
-ghost use Rattle.wire.specs.Header.{rateBits, subBits, joinedFour, formatBits, reservedBit, codecBits, joinedSeven};
+ghost use Prim.Native.Nat.{_+_, _*_, _<_, _≤_};
+ghost use lib.ListN.{length};
+ghost use Rattle.wire.specs.Header.{rateBits, subBits, joinedFour, formatBits, reservedBit, codecBits, joinedSeven, fourAt};
 ghost use Rattle.wire.specs.Write.{four};
 
 pub fn rate(b: u8) -> u8
@@ -53,6 +54,14 @@ pub fn join_counter(a: u8, b: u8, c: u8, e: u8) -> u32
     ensures { λ r. ⌜ r ≡ a + b * 256 + c * 65536 + e * 16777216 ⌝ }
 {
     a as u32 | (b as u32) << 8 | (c as u32) << 16 | (e as u32) << 24
+}
+
+// The four bytes from `i` on as a number.
+pub fn four_at(d: &[u8], i: usize) -> u32
+    requires { ⌜ i + 4 ≤ length (now d) ⌝ }
+    ensures { λ r. ⌜ r ≡ fourAt (now (d .entry)) i ⌝ }
+{
+    join_counter(d[i], d[i + 1], d[i + 2], d[i + 3])
 }
 
 // A number's four bytes, the lowest first.

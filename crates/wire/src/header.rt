@@ -5,7 +5,7 @@ ghost use lib.ListN.{length};
 ghost use Rattle.lists.specs.Tables.{first};
 ghost use Rattle.samples.specs.Formats.{sizeAt};
 ghost use Rattle.answers.specs.declared.Answer.the-variants.{Accepted};
-ghost use Rattle.wire.specs.Header.{counterOf, headerOf, noHeader, dataSize, foreign, markRows, bitRows, fieldRows, headerRows, headerAlone};
+ghost use Rattle.wire.specs.Header.{counterOf, headerOf, unnamed, noHeader, dataSize, foreign, markRows, bitRows, fieldRows, headerRows, headerAlone};
 use answers::Answer;
 use samples::Format;
 
@@ -23,7 +23,7 @@ pub struct HeaderAnswer {
     pub header: Header,
 }
 
-fn is_foreign(d: &[u8]) -> bool
+pub(crate) fn is_foreign(d: &[u8]) -> bool
     ensures { λ r. ⌜ r ≡ foreign (now (d .entry)) ⌝ }
 {
     if lists::at(d, 0) != 0x56 {
@@ -42,7 +42,7 @@ fn is_foreign(d: &[u8]) -> bool
 }
 
 // Rows 3 and 4.
-pub fn mark_refusal(d: &[u8]) -> Answer
+fn mark_refusal(d: &[u8]) -> Answer
     requires { ⌜ 28 ≤ length (now d) ⌝ }
     ensures { λ r. ⌜ r ≡ first Accepted (markRows (now (d .entry))) ⌝ }
 {
@@ -105,18 +105,33 @@ fn counter(d: &[u8]) -> u32
     )
 }
 
-pub fn fields(d: &[u8]) -> Header
-    requires { ⌜ 28 ≤ length (now d) ⌝ }
-    ensures { λ r. ⌜ r ≡ headerOf (now (d .entry)) ⌝ }
+// A header without its name, which following has looked at before.
+pub fn numbers(d: &[u8]) -> Header
+    ensures { λ r. ⌜ r ≡ unnamed (headerOf (now (d .entry))) ⌝ }
 {
-    let name = crate::name::kept(&d[8..24]);
     Header {
         rate: crate::bits::rate(lists::at(d, 4)),
         frames: lists::at(d, 5) as u16 + 1,
         channels: lists::at(d, 6) as u16 + 1,
         format: crate::bits::format(lists::at(d, 7)),
-        name,
+        name: [0u8; 16],
         counter: counter(d),
+    }
+}
+
+pub(crate) fn fields(d: &[u8]) -> Header
+    requires { ⌜ 28 ≤ length (now d) ⌝ }
+    ensures { λ r. ⌜ r ≡ headerOf (now (d .entry)) ⌝ }
+{
+    let name = crate::name::kept(&d[8..24]);
+    let h = numbers(d);
+    Header {
+        rate: h.rate,
+        frames: h.frames,
+        channels: h.channels,
+        format: h.format,
+        name,
+        counter: h.counter,
     }
 }
 

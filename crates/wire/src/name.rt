@@ -2,7 +2,7 @@
 ghost use mathlib.Core.Path.{_≡_};
 ghost use Prim.Native.Nat.{_≤_};
 ghost use lib.ListN.{length};
-ghost use Rattle.wire.specs.Names.{nameOf, printable, goodName, keptName, sameName};
+ghost use Rattle.wire.specs.Names.{nameOf, charactersOf, goodName, keptName, sameBytes, sameName};
 
 // How many characters the name has: the bytes before the first zero, or all.
 fn count(n: &[u8]) -> usize
@@ -11,40 +11,51 @@ fn count(n: &[u8]) -> usize
     bytes::scan::find(n, 0, n.len(), 0)
 }
 
-fn all_printable(s: &[u8]) -> bool
-    ensures { λ r. ⌜ r ≡ printable (now (s .entry)) ⌝ }
+// How many characters stand at the front: the bytes before the first that no name has, or all.
+fn characters(n: &[u8]) -> usize
+    ensures { λ r. ⌜ r ≡ charactersOf (now (n .entry)) ⌝ }
 {
     let mut i = 0;
-    while i < s.len() {
-        if s[i] < 0x20 {
-            return false;
+    while i < n.len() {
+        if n[i] < 0x20 {
+            return i;
         }
-        if s[i] > 0x7e {
-            return false;
+        if n[i] > 0x7e {
+            return i;
         }
         i += 1;
     }
-    true
+    i
 }
 
+// A name is good if it has a character, and a zero or the end comes after the characters.
 pub fn good(n: &[u8]) -> bool
     ensures { λ r. ⌜ r ≡ goodName (now (n .entry)) ⌝ }
 {
-    let k = count(n);
+    let k = characters(n);
     if k == 0 {
         return false;
     }
-    all_printable(&n[..k])
+    lists::at(n, k) == 0
 }
 
-// The name with zeros after it.
+// The name with zeros after it, into the bytes that are lent: zeros first, and then the characters, so that nothing is read back.
+pub(crate) fn keep(n: &[u8], out: &mut [u8])
+    requires { ⌜ (length (now n) ≡ 16) × (length (now out) ≡ 16) ⌝ }
+    ensures { λ _. ⌜ now (out .exit) ≡ keptName (now (n .entry)) ⌝ }
+{
+    let k = count(n);
+    let zeros = [0u8; 16];
+    bytes::copy(&zeros, out);
+    bytes::copy(&n[..k], out);
+}
+
 pub fn kept(n: &[u8]) -> [u8; 16]
     requires { ⌜ length (now n) ≡ 16 ⌝ }
     ensures { λ r. ⌜ r ≡ keptName (now (n .entry)) ⌝ }
 {
-    let k = count(n);
     let mut name = [0u8; 16];
-    bytes::copy(&n[..k], &mut name);
+    keep(n, &mut name);
     name
 }
 
@@ -63,4 +74,19 @@ pub fn same(m: &[u8], n: &[u8]) -> bool
         i += 1;
     }
     lists::at(n, i) == 0
+}
+
+// Whether two fields hold the same bytes, four at a time.
+pub fn equal(m: &[u8], n: &[u8]) -> bool
+    requires { ⌜ (length (now m) ≡ 16) × (length (now n) ≡ 16) ⌝ }
+    ensures { λ r. ⌜ r ≡ sameBytes (now (m .entry)) (now (n .entry)) ⌝ }
+{
+    let mut i = 0;
+    while i < 16 {
+        if crate::bits::four_at(m, i) != crate::bits::four_at(n, i) {
+            return false;
+        }
+        i += 4;
+    }
+    true
 }

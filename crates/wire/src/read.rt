@@ -6,7 +6,7 @@ ghost use lib.Dec.{ltb};
 ghost use Rattle.lists.specs.Tables.{first, unlike};
 ghost use Rattle.answers.specs.declared.Answer.the-variants.{Accepted};
 ghost use Rattle.wire.specs.Header.{headerOf, dataSize};
-ghost use Rattle.wire.specs.Read.{frontRows, lengthRows, audioRows, readRows, readOf};
+ghost use Rattle.wire.specs.Read.{leadRows, frontRows, lengthRows, audioRows, readRows, readOf};
 use crate::header::Header;
 use answers::Answer;
 
@@ -29,9 +29,9 @@ fn is_inexact(d: &[u8]) -> bool
     d.len() != 28 + crate::header::size_in(d)
 }
 
-// Rows 1 to 4.
-pub fn front_refusal(d: &[u8]) -> Answer
-    ensures { λ r. ⌜ r ≡ first Accepted (frontRows (now (d .entry))) ⌝ }
+// Rows 1 to 3.
+pub fn lead_refusal(d: &[u8]) -> Answer
+    ensures { λ r. ⌜ r ≡ first Accepted (leadRows (now (d .entry))) ⌝ }
 {
     if d.len() < 28 {
         return Answer::Short;
@@ -39,7 +39,24 @@ pub fn front_refusal(d: &[u8]) -> Answer
     if is_long(d) {
         return Answer::Long;
     }
-    crate::header::mark_refusal(d)
+    if crate::header::is_foreign(d) {
+        return Answer::Foreign;
+    }
+    Answer::Accepted
+}
+
+// Rows 1 to 4.
+fn front_refusal(d: &[u8]) -> Answer
+    ensures { λ r. ⌜ r ≡ first Accepted (frontRows (now (d .entry))) ⌝ }
+{
+    let a = lead_refusal(d);
+    if answers::number(a) != 0 {
+        return a;
+    }
+    if !crate::name::good(&d[8..24]) {
+        return Answer::Name;
+    }
+    Answer::Accepted
 }
 
 fn length_refusal(d: &[u8]) -> Answer

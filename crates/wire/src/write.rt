@@ -15,7 +15,9 @@ pub struct Written {
     pub length: usize,
 }
 
-pub fn bad_form(h: Header) -> bool
+// The header's name comes as a slice beside it: a name copied out of a struct costs much.
+pub fn bad_form(name: &[u8], h: Header) -> bool
+    requires { ⌜ now name ≡ h .name ⌝ }
     ensures { λ r. ⌜ r ≡ badForm h ⌝ }
 {
     if h.rate > 20 {
@@ -30,18 +32,18 @@ pub fn bad_form(h: Header) -> bool
     if lists::is_outside(h.channels, 256) {
         return true;
     }
-    let name = h.name;
-    if !crate::name::good(&name) {
+    if !crate::name::good(name) {
         return true;
     }
     false
 }
 
 // By the header, the bytes of data given and the room for the packet. After row 22 what is given is small, so the sum fits.
-pub fn refusal(h: Header, given: usize, room: usize) -> Made
+fn refusal(h: Header, given: usize, room: usize) -> Made
     ensures { λ r. ⌜ r ≡ first Done (writeRows h given room) ⌝ }
 {
-    if bad_form(h) {
+    let name = h.name;
+    if bad_form(&name, h) {
         return Made::Form;
     }
     let size = crate::header::data_size(h);
@@ -73,15 +75,15 @@ pub fn lead(b4: u8, b5: u8, b6: u8, b7: u8, name: &[u8], counter: u32, out: &mut
     ensures { λ _. ⌜ now (out .exit) ≡ leadOf b4 b5 b6 b7 (now (name .entry)) counter ⌝ }
 {
     let mark = [0x56u8, 0x42, 0x41, 0x4e, b4, b5, b6, b7];
-    let kept = crate::name::kept(name);
     let count = crate::bits::split_counter(counter);
     place(&mark, out, 0);
-    place(&kept, out, 8);
+    crate::name::keep(name, &mut out[8..24]);
     place(&count, out, 24);
 }
 
 // The 28 bytes of a header: audio, PCM, the reserved bit zero.
-pub fn header(h: Header, out: &mut [u8])
+pub fn header(name: &[u8], h: Header, out: &mut [u8])
+    requires { ⌜ now name ≡ h .name ⌝ }
     requires { ⌜ (h .rate < 32) × (h .format < 8) ⌝ }
     requires { ⌜ (1 ≤ h .frames) × (h .frames ≤ 256) ⌝ }
     requires { ⌜ (1 ≤ h .channels) × (h .channels ≤ 256) ⌝ }
@@ -92,8 +94,7 @@ pub fn header(h: Header, out: &mut [u8])
     let b5 = (h.frames - 1) as u8;
     let b6 = (h.channels - 1) as u8;
     let b7 = crate::bits::join_seven(h.format, 0, 0);
-    let name = h.name;
-    lead(b4, b5, b6, b7, &name, h.counter, out);
+    lead(b4, b5, b6, b7, name, h.counter, out);
 }
 
 // A packet of good form, where there is room.
@@ -102,7 +103,8 @@ fn emit(h: Header, samples: &[u8], out: &mut [u8])
     requires { ⌜ 28 + length (now samples) ≤ length (now out) ⌝ }
     ensures { λ _. ⌜ now (out .exit) ≡ put (now (out .entry)) 0 (packetOf h (now (samples .entry))) ⌝ }
 {
-    header(h, &mut out[0..28]);
+    let name = h.name;
+    header(&name, h, &mut out[0..28]);
     place(samples, out, 28);
 }
 

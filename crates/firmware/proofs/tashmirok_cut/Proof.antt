@@ -8,7 +8,7 @@ use Rattle.firmware.proofs.tashmirok_cut.Tie as tie
 
 told : tie.Need-returns
 told c =
-    let e = c .before .before .before .cut .ensures in
+    let e = c .before .before .before .cut-named .ensures in
     (c .number-made .ensures ∙ ap (λ (r : CutAnswer). numberMade (r .answer)) (e .0), (e .1, ap (λ (r : CutAnswer). r .length) (e .0)))
 
 pub tashmirok-cut-spec : {M : Type 1} → statement M

@@ -1,11 +1,10 @@
 -- Each test is one of the definition's.
 use borrow.Author.Needs.{needs}
 use Rattle.lists.proofs.Branches.{flag-yes, flag-no, less-yes, less-no}
-use Rattle.cutter.proofs.Checks.{above-yes, above-no}
 use Rattle.cutter.proofs.cut.bad_cut.Statement.{statement}
 use Rattle.cutter.proofs.cut.bad_cut.Tie as tie
 
-ruleset tests = (above-yes, above-no, flag-yes, flag-no, less-yes, less-no)
+ruleset tests = (flag-yes, flag-no, less-yes, less-no)
 
 pub bad-cut-spec : {M : Type 1} → statement M
 bad-cut-spec =

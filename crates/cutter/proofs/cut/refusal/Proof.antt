@@ -1,8 +1,10 @@
 -- The rows in order.
 use borrow.Author.Needs.{needs}
-use Rattle.cutter.proofs.Checks.{form-refuses, data-refuses, number-refuses, writer-refuses}
+use Rattle.cutter.proofs.Checks.{form-refuses, data-refuses, number-refuses, small, room-refuses, none-refuses}
 use Rattle.cutter.proofs.cut.refusal.Statement.{statement}
 use Rattle.cutter.proofs.cut.refusal.Tie as tie
+
+ruleset rows = (small, room-refuses, none-refuses, needs)
 
 pub refusal-spec : {M : Type 1} → statement M
 refusal-spec =
@@ -16,5 +18,6 @@ refusal-spec =
     (λ c. search number-refuses)
     (λ c κs. search needs)
     (λ c κs. search needs)
-    (λ c κs. search needs)
-    (λ c. search writer-refuses depth 8 fits 4000))
+    (λ c. search rows depth 8 fits 6000)
+    (λ c. search rows depth 8 fits 6000)
+    (λ c. search rows depth 8 fits 6000))

@@ -8,7 +8,6 @@ pub bad-state-spec : {M : Type 1} → statement M
 bad-state-spec =
     tie.close
     (tie.spec
-    (λ c. search needs)
     (λ c κs. search needs)
     (λ c. search bad-name)
     (λ c κs. search needs)

@@ -1,6 +1,6 @@
 -- The table part by part.
 use borrow.Author.Needs.{needs}
-use Rattle.take.proofs.Judging.{stream-refused, stream-long, read-refused, take-refused, all-pass}
+use Rattle.take.proofs.Judging.{stream-refused, read-refused, take-refused, all-pass}
 use Rattle.take.proofs.follow.judge.Statement.{statement}
 use Rattle.take.proofs.follow.judge.Tie as tie
 
@@ -16,7 +16,7 @@ judge-spec =
     (λ c κs. search needs)
     (λ c κs. search needs)
     (λ c. search read-refused)
-    (λ c κs. search stream-long)
+    (λ c κs. search needs)
     (λ c κs. search needs)
     (λ c κs. search needs)
     (λ c κs. search needs)

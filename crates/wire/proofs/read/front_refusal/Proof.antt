@@ -1,6 +1,10 @@
--- Each test is a row; the rows after it are a function's.
+-- The lead, and then the name.
+use mathlib.Core.Path.{refl}
+use native.Mathlib.Omega.{arith}
 use borrow.Author.Needs.{needs}
-use Rattle.lists.proofs.Branches.{flag-yes, flag-no, less-yes, less-no}
+use Rattle.lists.proofs.Branches.{flag-yes, flag-no}
+use Rattle.wire.specs.Read.{leadRows, nameRows, frontRows}
+use Rattle.wire.proofs.Rows.{negated, long-enough, stops, goes}
 use Rattle.wire.proofs.read.front_refusal.Statement.{statement}
 use Rattle.wire.proofs.read.front_refusal.Tie as tie
 
@@ -8,8 +12,12 @@ pub front-refusal-spec : {M : Type 1} → statement M
 front-refusal-spec =
     tie.close
     (tie.spec
-    (λ c. search less-yes)
     (λ c κs. search needs)
-    (λ c. search (less-no, flag-yes))
     (λ c κs. search needs)
-    (λ c. search (less-no, flag-no)))
+    (λ c. search (stops leadRows nameRows frontRows (λ d. refl) (λ d. tt)))
+    (λ c. search needs)
+    (λ c. search needs)
+    (λ c. omega (arith, long-enough _ _ (c .before .number .ensures) (c .before .before .before .before .args .d .now) _ (c .before .before .lead-refusal .ensures) (c .if1 .left)))
+    (λ c κs. search needs)
+    (λ c. search (goes leadRows nameRows frontRows (λ d. refl) (λ d. tt), negated, flag-yes, flag-no) depth 8)
+    (λ c. search (goes leadRows nameRows frontRows (λ d. refl) (λ d. tt), negated, flag-yes, flag-no) depth 8))

@@ -1,7 +1,8 @@
--- The raw bytes are the joined fields.
-use mathlib.Core.Path.{_≡_, _∙_}
+-- The raw bytes are the joined fields, and the name given is the header's.
+use mathlib.Core.Path.{_≡_, ap, _∙_}
 use mathlib.Core.List.{List}
 use Prim.Native.Nat.{ℕ, _-_}
+use lib.ListN.{length}
 use borrow.Author.Needs.{needs}
 use Rattle.wire.specs.declared.header.Header.{Header}
 use Rattle.wire.specs.Header.{joinedFour, joinedSeven}
@@ -9,9 +10,16 @@ use Rattle.wire.specs.Write.{leadOf, headerBytes}
 use Rattle.wire.proofs.write.header.Statement.{statement}
 use Rattle.wire.proofs.write.header.Tie as tie
 
-of-fields : (h : Header) (out : List ℕ) (b4 b7 : ℕ) → out ≡ leadOf b4 (h .frames - 1) (h .channels - 1) b7 (h .name) (h .counter)
-    → b4 ≡ joinedFour (h .rate) 0 → b7 ≡ joinedSeven (h .format) 0 0 → out ≡ headerBytes h
-of-fields h out b4 b7 e p q = e ∙ rw (p, q)
+module _ (h : Header) (name : List ℕ) (n : name ≡ h .name) where
+  sixteen : length (h .name) ≡ 16 → length name ≡ 16
+  sixteen l = ap length n ∙ l
+
+  of-fields : (out : List ℕ) (b4 b7 : ℕ) → out ≡ leadOf b4 (h .frames - 1) (h .channels - 1) b7 name (h .counter)
+      → b4 ≡ joinedFour (h .rate) 0 → b7 ≡ joinedSeven (h .format) 0 0 → out ≡ headerBytes h
+  of-fields out b4 b7 e p q = e ∙ rw (p, q, n)
+
+asks : tie.Need-lead-requires
+asks c κs = (search (sixteen, needs), search needs)
 
 pub header-spec : {M : Type 1} → statement M
 header-spec =
@@ -23,7 +31,6 @@ header-spec =
     (λ c. search needs)
     (λ c. search needs)
     (λ c κs. search needs)
-    (λ c. search needs)
-    (λ c κs. search needs)
+    asks
     (λ c. search needs)
     (λ c. search of-fields))

@@ -1,35 +1,49 @@
 -- The pieces, one after the other, are the 28 bytes.
-use mathlib.Core.Path.{_≡_, sym, _∙_}
+use mathlib.Core.Path.{_≡_, sym, ap, _∙_}
 use mathlib.Core.List.{List, [], _∷_, _++_}
 use Prim.Native.Nat.{ℕ}
+use native.Mathlib.Nat.{le-of-eq}
 use lib.ListN.{length, length-append}
 use borrow.Author.Needs.{needs}
 use Rattle.lists.specs.Lists.{put}
-use Rattle.lists.proofs.Lists.{put-whole}
+use borrow.Rule.Slice.PartMut.{putMid}
+use Rattle.lists.proofs.Lists.{put-whole, lent}
 use Rattle.wire.specs.Names.{keptName}
 use Rattle.wire.specs.Write.{four, leadOf}
+use Rattle.wire.proofs.Names.{kept-length}
 use Rattle.wire.proofs.Pieces.{put-next}
 use Rattle.wire.proofs.write.lead.Statement.{statement}
 use Rattle.wire.proofs.write.lead.Tie as tie
 
-assembled : (b4 b5 b6 b7 counter : ℕ) (name out o₁ o₂ o₃ kept count : List ℕ)
-    → o₁ ≡ put out 0 (0x56 ∷ 0x42 ∷ 0x41 ∷ 0x4E ∷ b4 ∷ b5 ∷ b6 ∷ b7 ∷ []) → o₂ ≡ put o₁ 8 kept → o₃ ≡ put o₂ 24 count
-    → kept ≡ keptName name → count ≡ four counter → length kept ≡ 16 → length out ≡ 28 → o₃ ≡ leadOf b4 b5 b6 b7 name counter
+assembled : (b4 b5 b6 b7 counter : ℕ) (name out o₁ o₃ kept count : List ℕ)
+    → o₁ ≡ put out 0 (0x56 ∷ 0x42 ∷ 0x41 ∷ 0x4E ∷ b4 ∷ b5 ∷ b6 ∷ b7 ∷ []) → kept ≡ keptName name → o₃ ≡ put (putMid 8 16 o₁ kept) 24 count
+    → count ≡ four counter → length name ≡ 16 → length out ≡ 28 → o₃ ≡ leadOf b4 b5 b6 b7 name counter
 unfolding leadOf
-assembled b4 b5 b6 b7 counter name out o₁ o₂ o₃ kept count p₁ p₂ p₃ k f l w =
+assembled b4 b5 b6 b7 counter name out o₁ o₃ kept count p₁ k p₃ f n w =
     let mark : List ℕ = 0x56 ∷ 0x42 ∷ 0x41 ∷ 0x4E ∷ b4 ∷ b5 ∷ b6 ∷ b7 ∷ [] in
+    let l : length kept ≡ 16 = ap length k ∙ kept-length name (le-of-eq n) in
     let lead : length (mark ++ kept) ≡ 24 = length-append mark kept ∙ rw l in
     let whole : length (mark ++ kept ++ four counter) ≡ 28 = length-append (mark ++ kept) (four counter) ∙ rw lead in
-    rw (p₃, p₂, p₁, f, put-next out mark kept 8, put-next out (mark ++ kept) (four counter) 24 lead, put-whole out (mark ++ kept ++ four counter) (w ∙ sym whole), k)
+    rw (
+      p₃,
+      lent o₁ kept 8 16 l,
+      p₁,
+      f,
+      put-next out mark kept 8,
+      put-next out (mark ++ kept) (four counter) 24 lead,
+      put-whole out (mark ++ kept ++ four counter) (w ∙ sym whole),
+      k,
+    )
 
 pub lead-spec : {M : Type 1} → statement M
 lead-spec =
     tie.close
     (tie.spec
     (λ c κs. search needs)
-    (λ c κs. search needs)
     (λ c. search needs)
     (λ c κs. search needs)
+    (λ c. search needs)
+    (λ c. search needs)
     (λ c. search needs)
     (λ c κs. search needs)
     (λ c. search needs)
