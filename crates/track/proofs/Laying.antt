@@ -30,12 +30,11 @@ module _ (f : Format) (d : List ℕ) (from channels : ℕ) where
   unfolding frameSlot
   silent c h = less-no _ _ _ _ _ h refl
 
-  pub framed : (out : List ℕ) (r0 r1 r2 r3 r4 r5 r6 r7 : ℕ) → out ≡ slots r0 r1 r2 r3 r4 r5 r6 r7
-      → r0 ≡ frameSlot f d from channels 0 → r1 ≡ frameSlot f d from channels 1 → r2 ≡ frameSlot f d from channels 2
-      → r3 ≡ frameSlot f d from channels 3 → r4 ≡ frameSlot f d from channels 4 → r5 ≡ frameSlot f d from channels 5
-      → r6 ≡ frameSlot f d from channels 6 → r7 ≡ frameSlot f d from channels 7 → out ≡ recordOf (frameSlot f d from channels)
-  unfolding slots recordOf upTo
-  framed out r0 r1 r2 r3 r4 r5 r6 r7 p e0 e1 e2 e3 e4 e5 e6 e7 = rw (p, e0, e1, e2, e3, e4, e5, e6, e7)
+-- eight slots as a record, whatever says which they are
+pub framed : (g : ℕ → ℕ) (out : List ℕ) (r0 r1 r2 r3 r4 r5 r6 r7 : ℕ) → out ≡ slots r0 r1 r2 r3 r4 r5 r6 r7
+    → r0 ≡ g 0 → r1 ≡ g 1 → r2 ≡ g 2 → r3 ≡ g 3 → r4 ≡ g 4 → r5 ≡ g 5 → r6 ≡ g 6 → r7 ≡ g 7 → out ≡ recordOf g
+unfolding slots recordOf upTo
+framed g out r0 r1 r2 r3 r4 r5 r6 r7 p e0 e1 e2 e3 e4 e5 e6 e7 = rw (p, e0, e1, e2, e3, e4, e5, e6, e7)
 
 pub record-length : (slots : ℕ → ℕ) → length (recordOf slots) ≡ 24
 unfolding recordOf
@@ -52,47 +51,66 @@ laid-length t place n frames h = put-length t (recordsOf n frames) (place * 24) 
 
 -- ---- the loop
 
--- after k turns: k records laid, the data read from at on, the next record to be written at a
-pub record Laying (f : Format) (d : List ℕ) (from frames channels : ℕ) (track₀ : List ℕ) (place : ℕ) (track : List ℕ) (k at a : ℕ) : Type 0 where
+-- after k turns: k records laid, the next frame read at at, the next record to be written at a
+pub record LayingFrames (g : ℕ → ℕ → ℕ) (from step frames : ℕ) (track₀ : List ℕ) (place : ℕ) (track : List ℕ) (k at a : ℕ) : Type 0 where
   pub turns : k ≤ frames
   pub same : length track ≡ length track₀
-  pub reads : at ≡ from + k * (channels * sizeOf f)
+  pub reads : at ≡ from + k * step
   pub writes : a ≡ place * 24 + k * 24
-  pub so-far : track ≡ laidOf track₀ place k (packetSlot f d from channels)
+  pub so-far : track ≡ laidOf track₀ place k g
+
+module _ (g : ℕ → ℕ → ℕ) (from step frames : ℕ) (track₀ : List ℕ) (place : ℕ) where
+  pub frames-start : LayingFrames g from step frames track₀ place track₀ 0 from (place * 24)
+  unfolding laidOf recordsOf upTo
+  frames-start = record { turns = zero-le; same = refl; reads = omega arith; writes = omega arith; so-far = put-none track₀ (place * 24) }
+
+  module _ (track : List ℕ) (k at a : ℕ) (l : LayingFrames g from step frames track₀ place track k at a) where
+    -- in a turn the frame that is read is there
+    pub frame-room : (held : ℕ) → k < frames → from + frames * step ≤ held → at + step ≤ held
+    frame-room held h m = omega (arith, l .reads, within k frames step h)
+
+    more : (ys : List ℕ) → place * 24 + frames * 24 ≤ length track₀ → ys ≡ recordOf (g k) → putMid a (a + 24 - a) track ys ≡ laidOf track₀ place (k + 1) g
+    unfolding laidOf recordsOf
+    more ys m p = turn 24 (λ j. recordOf (g j)) (λ j. record-length _) _ _ _ _ _ _ _ (l .so-far) p (l .writes) refl (omega arith)
+
+    pub frames-next : (ys : List ℕ) → k < frames → place * 24 + frames * 24 ≤ length track₀ → ys ≡ recordOf (g k)
+        → LayingFrames g from step frames track₀ place (putMid a (a + 24 - a) track ys) (k + 1) (at + step) (a + 24)
+    frames-next ys h m p =
+        let e = more ys m p in
+        record {
+          turns = omega arith;
+          same = ap length e ∙ laid-length track₀ place (k + 1) g (omega arith);
+          reads = omega (arith, l .reads, one-more k step);
+          writes = omega (arith, l .writes);
+          so-far = e;
+        }
+
+    pub frames-end : frames ≤ k → track ≡ laidOf track₀ place frames g
+    frames-end h = l .so-far ∙ rw (le-antisymm (l .turns) h)
+
+-- of a packet's data
+abbrev pub Laying : Format → List ℕ → ℕ → ℕ → ℕ → List ℕ → ℕ → List ℕ → ℕ → ℕ → ℕ → Type 0
+Laying f d from frames channels track₀ place track k at a =
+    LayingFrames (packetSlot f d from channels) from (channels * sizeOf f) frames track₀ place track k at a
 
 module _ (f : Format) (d : List ℕ) (from frames channels : ℕ) (track₀ : List ℕ) (place : ℕ) where
   pub start : Laying f d from frames channels track₀ place track₀ 0 from (place * 24)
-  unfolding laidOf recordsOf upTo
-  start = record { turns = zero-le; same = refl; reads = omega arith; writes = omega arith; so-far = put-none track₀ (place * 24) }
+  start = frames-start (packetSlot f d from channels) from (channels * sizeOf f) frames track₀ place
 
   module _ (track : List ℕ) (k at a : ℕ) (l : Laying f d from frames channels track₀ place track k at a) where
-    -- in a turn the data has the frame that is read
     pub room : k < frames → from + frames * (channels * sizeOf f) ≤ length d → at + channels * sizeOf f ≤ length d
-    room h m = omega (arith, within k frames (channels * sizeOf f) h)
+    room h m = frame-room (packetSlot f d from channels) from (channels * sizeOf f) frames track₀ place track k at a l (length d) h m
 
     one : (ys : List ℕ) → ys ≡ recordOf (frameSlot f d at channels) → ys ≡ recordOf (packetSlot f d from channels k)
     unfolding frameSlot packetSlot
     one ys p = p ∙ rw (l .reads)
 
-    more : (ys : List ℕ) → place * 24 + frames * 24 ≤ length track₀ → ys ≡ recordOf (packetSlot f d from channels k)
-        → putMid a (a + 24 - a) track ys ≡ laidOf track₀ place (k + 1) (packetSlot f d from channels)
-    unfolding laidOf recordsOf
-    more ys m p = turn 24 (λ j. recordOf (packetSlot f d from channels j)) (λ j. record-length _) _ _ _ _ _ _ _ (l .so-far) p (l .writes) refl (omega arith)
-
     pub next : (ys : List ℕ) → k < frames → place * 24 + frames * 24 ≤ length track₀ → ys ≡ recordOf (frameSlot f d at channels)
         → Laying f d from frames channels track₀ place (putMid a (a + 24 - a) track ys) (k + 1) (at + channels * sizeOf f) (a + 24)
-    next ys h m p =
-        let e = more ys m (one ys p) in
-        record {
-          turns = omega arith;
-          same = ap length e ∙ laid-length track₀ place (k + 1) (packetSlot f d from channels) (omega arith);
-          reads = omega (arith, one-more k (channels * sizeOf f));
-          writes = omega arith;
-          so-far = e;
-        }
+    next ys h m p = frames-next (packetSlot f d from channels) from (channels * sizeOf f) frames track₀ place track k at a l ys h m (one ys p)
 
     pub end : frames ≤ k → track ≡ laidOf track₀ place frames (packetSlot f d from channels)
-    end h = l .so-far ∙ rw (le-antisymm (l .turns) h)
+    end h = frames-end (packetSlot f d from channels) from (channels * sizeOf f) frames track₀ place track k at a l h
 
 -- a call for a count that is a literal, where the channels are that many
 pub for-count : (f : Format) (d : List ℕ) (from channels n frames : ℕ) (track₀ out : List ℕ) (place : ℕ) → channels ≡ n

@@ -1,5 +1,6 @@
 pub mod Packing
 pub mod Spelling
 pub mod Laying
+pub mod Blocks
 pub mod Laws
 pub mod Copying

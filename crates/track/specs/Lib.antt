@@ -2,3 +2,4 @@ pub mod Bytes
 pub mod Words
 pub mod Records
 pub mod Frames
+pub mod Blocks

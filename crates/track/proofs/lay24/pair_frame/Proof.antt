@@ -39,7 +39,7 @@ module _ (d : List ℕ) (below : (i : ℕ) → byte d i < 256) (from : ℕ) wher
       → ys0 ≡ eight (x + y * 4294967296) → ys1 ≡ eight 0 → ys2 ≡ eight 0
       → putMid 16 8 (putMid 8 8 (putMid 0 8 out ys0) ys1) ys2 ≡ recordOf (frameSlot Signed24 d from 2)
   paired out ys0 ys1 ys2 u v x y h p ep q eq e0 e1 e2 =
-      framed Signed24 d from 2 _ (one 0) (one 1) 0 0 0 0 0 0
+      framed (frameSlot Signed24 d from 2) _ (one 0) (one 1) 0 0 0 0 0 0
       (packed (one 0) (one 1) 0 0 0 0 0 0 (one-below 0) (one-below 1) (lit< tt) (lit< tt) (lit< tt) (lit< tt) (lit< tt) (lit< tt)
       out ys0 ys1 ys2 h (e0 ∙ rw (ep, p, eq, q) (ap eight word)) e1 e2)
       (one-slot 0 (lit< tt)) (one-slot 1 (lit< tt)) (silent Signed24 d from 2 2 (lit≤ tt)) (silent Signed24 d from 2 3 (lit≤ tt))

@@ -1,4 +1,6 @@
 -- By the count of channels.
+use native.Mathlib.Omega.{arith}
+use lib.Dec.{lit≤}
 use borrow.Author.Needs.{needs}
 use Rattle.track.proofs.Laying.{for-count, room-for}
 use Rattle.track.proofs.lay32.lay.Statement.{statement}
@@ -8,15 +10,15 @@ pub lay-spec : {M : Type 1} → statement M
 lay-spec =
     tie.close
     (tie.spec
-    (λ c κs. (search needs, search room-for, search needs))
+    (λ c κs. (search needs, search needs, search needs, search room-for, search needs))
     (λ c. search needs)
     (λ c. search for-count)
-    (λ c κs. (search room-for, search needs))
+    (λ c κs. (search needs, search needs, search needs, search room-for, search needs))
     (λ c. search needs)
     (λ c. search for-count)
-    (λ c κs. (search needs, search room-for, search needs))
+    (λ c κs. (search needs, search needs, search needs, search room-for, search needs))
     (λ c. search needs)
     (λ c. search for-count)
-    (λ c κs. search needs)
+    (λ c κs. let h = c .before .before .before .before .before .before .pre in (h .0, lit≤ tt, omega (arith, h .0), h .1, h .2))
     (λ c. search needs)
     (λ c. search needs))

@@ -1,6 +1,7 @@
--- A sample, or 0 past the channels.
+-- A slot of the block, or 0 past the channels.
+use Prim.Native.Nat.{_+_}
 use borrow.Author.Needs.{needs}
-use Rattle.track.proofs.Laying.{heard, silent}
+use Rattle.track.proofs.Blocks.{held, silent}
 use Rattle.track.proofs.lay32.slot.Statement.{statement}
 use Rattle.track.proofs.lay32.slot.Tie as tie
 
@@ -10,8 +11,9 @@ slot-spec =
     (tie.spec
     (λ c. search needs)
     (λ c. search needs)
+    (λ c. search needs)
     (λ c κs. search needs)
-    (λ c κs. search needs)
-    (λ c κs. search needs)
-    (λ c. (search heard, search needs))
+    (λ c.
+    let o = c .before .before .before .before in
+    (search held, rw (c .wider .ensures) (o .pre .1 (o .args .at + o .args .c))))
     (λ c. (search silent, search needs)))

@@ -45,7 +45,7 @@ module _ (d : List ℕ) (below : (i : ℕ) → byte d i < 256) (from : ℕ) wher
       let b = word-bytes w e in
       let one : (c u r : ℕ) → c < 8 → u ≡ byte d (from + c * 1) → r ≡ slotOf Unsigned8 u → r ≡ frameSlot Unsigned8 d from 8 c
       = λ c u r h q s. heard Unsigned8 d from 8 c u r r h q s refl in
-      framed Unsigned8 d from 8 out r0 r1 r2 r3 r4 r5 r6 r7 p
+      framed (frameSlot Unsigned8 d from 8) out r0 r1 r2 r3 r4 r5 r6 r7 p
       (one 0 _ r0 (lit< tt) (b .0) e0) (one 1 _ r1 (lit< tt) (b .1) e1) (one 2 _ r2 (lit< tt) (b .2) e2) (one 3 _ r3 (lit< tt) (b .3) e3)
       (one 4 _ r4 (lit< tt) (b .4) e4) (one 5 _ r5 (lit< tt) (b .5) e5) (one 6 _ r6 (lit< tt) (b .6) e6) (one 7 _ r7 (lit< tt) (b .7) e7)
 
