@@ -4,14 +4,17 @@ use mathlib.Core.Logic.{_↔_}
 use mathlib.Core.Bool.{Bool, true, false, not}
 use mathlib.Core.List.{[], _∷_}
 use Prim.Native.Nat.{ℕ, zero, suc, _*_, _/_, _≤_, _<_, min}
-use native.Mathlib.Nat.{le-div-iff-mul-le, div-lt-iff-lt-mul, div-zero}
+use native.Mathlib.Nat.{le-div-iff-mul-le, div-lt-iff-lt-mul, div-zero, mul-le-mul}
 use native.Mathlib.Omega.{arith}
 use lib.Dec.{ltb}
-use borrow.Author.Tests.{lt-ltb, not-true, not-false, leb-true, le-leb}
+use borrow.Author.Tests.{not-true, not-false, leb-true, le-leb}
 use Rattle.lists.specs.Tables.{choose, any, outside}
 use Rattle.lists.proofs.Tables.{by-test, less-alike, none-holds, inside-by, by-inside}
 use Rattle.answers.specs.declared.Made.the-variants.{Done, Form}
 use Rattle.samples.specs.Formats.{maySend, sizeAt}
+use Rattle.wire.specs.declared.header.Header.{Header}
+use Rattle.wire.specs.Names.{goodName}
+use Rattle.wire.specs.Write.{badForm}
 use Rattle.cutter.specs.declared.largest.LargestAnswer.{LargestAnswer}
 use Rattle.cutter.specs.Largest.{largestFrames, largestOf}
 
@@ -27,19 +30,12 @@ module _ (format channels r : ℕ) (e : r ≡ channels * sizeAt format) where
   pub by-bytes : 1436 / r ≤ 256 → 1436 / r ≡ largestFrames format channels
   by-bytes h = rw (← e) (omega arith)
 
-  module _ (n : ℕ) where
-    pub over-none : r ≡ 0 → ltb 0 n ≡ ltb (largestFrames format channels) n
-    over-none z = ap (λ (m : ℕ). ltb m n) (no-bytes z)
-
-    pub over-bytes : (r ≡ 0 → ⊥) → n ≤ 256 → ltb 1436 (n * r) ≡ ltb (largestFrames format channels) n
-    over-bytes z l =
-        let some : 0 < r = omega arith in
-        rw (← e)
-        (less-alike 1436 (n * r) (min 256 (1436 / r)) n (λ h. div-lt-iff-lt-mul {k = r} {x = 1436} {y = n} some .0 (omega arith))
-        (λ h. le-div-iff-mul-le {k = r} {x = n} {y = 1436} some .0 (omega arith)))
-
-pub over-most : (format channels n : ℕ) → 256 < n → true ≡ ltb (largestFrames format channels) n
-over-most format channels n l = rw (lt-ltb (largestFrames format channels) n (omega arith))
+  pub over-bytes : (n : ℕ) → (n ≤ 256) × (1 ≤ channels * sizeAt format) → ltb 1436 (n * r) ≡ ltb (largestFrames format channels) n
+  over-bytes n l =
+      let some : 0 < r = omega (arith, l .1) in
+      rw (← e)
+      (less-alike 1436 (n * r) (min 256 (1436 / r)) n (λ h. div-lt-iff-lt-mul {k = r} {x = 1436} {y = n} some .0 (omega arith))
+      (λ h. le-div-iff-mul-le {k = r} {x = n} {y = 1436} some .0 (omega (arith, l .0))))
 
 module _ (format channels : ℕ) (sent : Bool) (e : sent ≡ maySend format) where
   pub unsendable : not sent ≡ true → record { answer = Form; frames = 0 } ≡ largestOf format channels
@@ -70,6 +66,12 @@ size-some (suc zero) h = omega arith
 size-some (suc (suc zero)) h = omega arith
 size-some (suc (suc (suc zero))) h = omega arith
 size-some (suc (suc (suc (suc t)))) h = absurd (omega arith)
+
+-- so a frame of a form that a packet can have has one, and its frames are few
+pub formed-few : (h : Header) (bad : Bool) → bad ≡ badForm h → bad ≡ false → (h .frames ≤ 256) × (1 ≤ h .channels * sizeAt (h .format))
+formed-few h bad e z =
+    let c = none-holds (ltb 20 (h .rate) ∷ not (maySend (h .format)) ∷ outside 256 (h .frames) ∷ outside 256 (h .channels) ∷ not (goodName (h .name)) ∷ []) (sym e ∙ z) in
+    (inside-by 256 (h .frames) (c .1 .1 .0) .1, mul-le-mul {n₁ = 1} {m₁ = 1} (inside-by 256 (h .channels) (c .1 .1 .1 .0) .0) (size-some (h .format) (leb-true _ _ (not-false _ (c .1 .0)))))
 
 form-done : Form ≡ Done → ⊥
 form-done p = let z : _≡_ {A = ℕ} 0 1 = cc in omega arith

@@ -34,17 +34,12 @@ fn frames(format: u8, channels: u16) -> u16
     n as u16
 }
 
-// Whether so many frames are over the largest N: a product in place of a division.
+// Whether so many frames, of a form that a packet can have, are over the largest N: a product in place of a division.
 pub(crate) fn is_over(frames: u16, format: u8, channels: u16) -> bool
+    requires { ⌜ (frames ≤ 256) × (1 ≤ channels * sizeAt format) ⌝ }
     ensures { λ r. ⌜ r ≡ ltb (largestFrames format channels) frames ⌝ }
 {
-    if frames > 256 {
-        return true;
-    }
     let bytes = frame_bytes(format, channels);
-    if bytes == 0 {
-        return frames > 0;
-    }
     frames as usize * bytes > 1436
 }
 

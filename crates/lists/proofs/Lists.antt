@@ -1,12 +1,12 @@
 -- Laws of `put` and `upTo`, and of a run of stores over a whole slice.
-use mathlib.Core.Path.{_≡_, refl, sym, _∙_}
-use mathlib.Core.List.{List, [], _++_, append-assoc, append-nil}
+use mathlib.Core.Path.{_≡_, refl, sym, ap, _∙_}
+use mathlib.Core.List.{List, [], _∷_, _++_, append-assoc, append-nil}
 use Prim.Native.Nat.{ℕ, zero, suc, _+_, _-_, _*_, _<_, _≤_}
-use native.Mathlib.Nat.{not-suc-le-zero, zero-add, le-of-eq, suc-mul, zero-mul, add-sub-cancel-left, min-le-left, le-antisymm, mul-le-mul-right}
+use native.Mathlib.Nat.{not-suc-le-zero, le-of-suc-le-suc, zero-add, add-zero, add-suc, le-of-eq, suc-mul, zero-mul, add-sub-cancel-left, min-le-left, le-antisymm, mul-le-mul-right}
 use native.Mathlib.Omega.{arith}
 use native.Mathlib.Decide.{decLt}
 use native.Mathlib.Numerals.{add-one}
-use lib.ListN.{length, take, drop, length-append, length-take, length-drop, take-append-drop, drop-of-length-le, List·getD-append}
+use lib.ListN.{length, getD, set, take, drop, replicate, length-append, length-take, length-drop, take-append-drop, drop-of-length-le, List·getD-append}
 use lib.Seq.{sets, sets-eq, take-at, drop-at, drop-drop, length-take-le, take-length, take-add, getD-append-add, getD-take, getD-drop}
 use borrow.Rule.Slice.PartMut.{putMid}
 use Rattle.lists.specs.Lists.{byte, put, upTo}
@@ -56,6 +56,18 @@ pub put-length : (d s : List ℕ) (at : ℕ) → at + length s ≤ length d → 
 unfolding put
 put-length d s at h = simp (length-append, length-take, length-drop) (omega arith)
 
+-- one number set is a list of one, put there
+pub set-put : (l : List ℕ) (i v : ℕ) → i < length l → set l i v ≡ put l i (v ∷ [])
+unfolding put
+set-put [] i v h = absurd (not-suc-le-zero h)
+set-put (x ∷ xs) zero v h = refl
+set-put (x ∷ xs) (suc i) v h = ap (λ (l : List ℕ). x ∷ l) (set-put xs i v (le-of-suc-le-suc h))
+
+pub zero-at : (m j : ℕ) → getD {A = ℕ} (replicate m 0) j 0 ≡ 0
+zero-at zero j = refl
+zero-at (suc m) zero = refl
+zero-at (suc m) (suc j) = zero-at m j
+
 -- past a list of n elements stands the next
 pub skip : (p q : List ℕ) (n j : ℕ) → length p ≡ n → byte (p ++ q) (n + j) ≡ byte q j
 skip p q n j h = rw (← h) (getD-append-add p q j 0)
@@ -98,6 +110,19 @@ copied xs ys src a n l p =
 -- a copy over a list as long is what was copied
 pub copied-whole : (d src : List ℕ) → length src ≡ length d → take (length src) src ++ drop (length src) d ≡ src
 copied-whole d src h = rw (take-length src, drop-of-length-le d (le-of-eq (sym h))) (append-nil src)
+
+-- ---- lists put together
+
+pub upTo-same : (n : ℕ) (f g : ℕ → List ℕ) → ((i : ℕ) → i < n → f i ≡ g i) → upTo n f ≡ upTo n g
+unfolding upTo
+upTo-same zero f g h = refl
+upTo-same (suc n) f g h = rw (upTo-same n f g (λ i l. h i (omega arith)), h n (omega arith))
+
+-- the first m, and n after them
+pub upTo-more : (m n : ℕ) (f : ℕ → List ℕ) → upTo (m + n) f ≡ upTo m f ++ upTo n (λ i. f (m + i))
+unfolding upTo
+upTo-more m zero f = rw (add-zero m) (sym (append-nil (upTo m f)))
+upTo-more m (suc n) f = rw (add-suc m n, upTo-more m n f) (append-assoc (upTo m f) (upTo n (λ i. f (m + i))) (f (m + n)))
 
 -- ---- n lists of w elements each
 

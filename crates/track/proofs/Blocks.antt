@@ -1,17 +1,17 @@
 -- A block of slots: filled sample by sample, laid frame by frame; and blocks laid one after the other.
 use mathlib.Core.Path.{_≡_, refl, sym, ap, _∙_}
-use mathlib.Core.List.{List, [], _∷_, _++_, append-assoc, append-nil}
-use Prim.Native.Nat.{ℕ, zero, suc, _+_, _*_, _-_, _≤_, _<_, min, zero-le}
-use native.Mathlib.Nat.{le-antisymm, le-of-suc-le-suc, not-suc-le-zero, zero-add, add-zero, mul-le-mul-right, add-suc, add-mul, mul-assoc, mul-one}
+use mathlib.Core.List.{List, [], _∷_, _++_}
+use Prim.Native.Nat.{ℕ, _+_, _*_, _-_, _≤_, _<_, min, zero-le}
+use native.Mathlib.Nat.{le-antisymm, zero-add, mul-le-mul-right, add-mul, mul-assoc, mul-one}
 use native.Mathlib.Numerals.{add-one}
 use native.Mathlib.Omega.{arith}
 use native.Mathlib.Decide.{decLt}
 use lib.Dec.{lit<}
-use lib.ListN.{length, getD, set, replicate}
+use lib.ListN.{length, getD, set, replicate, length-replicate}
 use borrow.Author.Tests.{lt-ltb, le-ltb}
 use borrow.Rule.Slice.PartMut.{putMid}
 use Rattle.lists.specs.Lists.{byte, put, upTo}
-use Rattle.lists.proofs.Lists.{within, one-more, put-none, put-more, put-length, put-inside, put-after, upTo-length, upTo-at}
+use Rattle.lists.proofs.Lists.{within, one-more, put-none, put-more, put-length, set-put, zero-at, put-inside, put-after, upTo-same, upTo-more, upTo-length, upTo-at}
 use Rattle.samples.specs.declared.Format.{Format}
 use Rattle.samples.specs.declared.Format.the-variants.{Signed24}
 use Rattle.samples.specs.Formats.{sizeOf}
@@ -22,30 +22,6 @@ use Rattle.track.specs.Records.{recordOf, recordsOf, laidOf, packetSlot}
 use Rattle.track.specs.Blocks.{slotsFrom, Slots, blockSlot, blockFrames}
 use Rattle.track.proofs.Spelling.{sample-below}
 use Rattle.track.proofs.Laying.{record-length, laid-length, LayingFrames, frame-room, frames-next}
-
--- ---- lists
-
--- one number set is a list of one, put there
-set-put : (l : List ℕ) (i v : ℕ) → i < length l → set l i v ≡ put l i (v ∷ [])
-unfolding put
-set-put [] i v h = absurd (not-suc-le-zero h)
-set-put (x ∷ xs) zero v h = refl
-set-put (x ∷ xs) (suc i) v h = ap (λ (l : List ℕ). x ∷ l) (set-put xs i v (le-of-suc-le-suc h))
-
-upTo-same : (n : ℕ) (f g : ℕ → List ℕ) → ((i : ℕ) → i < n → f i ≡ g i) → upTo n f ≡ upTo n g
-unfolding upTo
-upTo-same zero f g h = refl
-upTo-same (suc n) f g h = rw (upTo-same n f g (λ i l. h i (omega arith)), h n (omega arith))
-
-upTo-more : (m n : ℕ) (f : ℕ → List ℕ) → upTo (m + n) f ≡ upTo m f ++ upTo n (λ i. f (m + i))
-unfolding upTo
-upTo-more m zero f = rw (add-zero m) (sym (append-nil (upTo m f)))
-upTo-more m (suc n) f = rw (add-suc m n, upTo-more m n f) (append-assoc (upTo m f) (upTo n (λ i. f (m + i))) (f (m + n)))
-
-zero-at : (m j : ℕ) → getD {A = ℕ} (replicate m 0) j 0 ≡ 0
-zero-at zero j = refl
-zero-at (suc m) zero = refl
-zero-at (suc m) (suc j) = zero-at m j
 
 -- ---- filling
 
@@ -124,31 +100,35 @@ module _ (block : List ℕ) (frames channels : ℕ) (track₀ : List ℕ) (place
 
 -- ---- blocks
 
--- what a block holds: slots, and zeros after them
-module _ (f : Format) (d : List ℕ) (below : (i : ℕ) → byte d i < 256) (from n : ℕ) (block : List ℕ) (e : block ≡ put (replicate 128 0) 0 (slotsFrom f d from n)) where
+-- what a block holds once slots are put over one that holds slots
+module _ (f : Format) (d : List ℕ) (below : (i : ℕ) → byte d i < 256) (from n : ℕ) (block₀ block : List ℕ) (e : block ≡ put block₀ 0 (slotsFrom f d from n)) where
   entry : (j : ℕ) → j < n → getD block j 0 ≡ slotOf f (sampleAt f d (from + j * sizeOf f))
   unfolding slotsFrom
   entry j h =
       let s = slotsFrom f d from n in
-      let a : byte (put (replicate 128 0) 0 s) (0 + j) ≡ byte s j = put-inside (replicate 128 0) s 0 zero-le j (rw (slots-length f d from n) h) in
+      let a : byte (put block₀ 0 s) (0 + j) ≡ byte s j = put-inside block₀ s 0 zero-le j (rw (slots-length f d from n) h) in
       let b : byte s (j * 1 + 0) ≡ slotOf f (sampleAt f d (from + j * sizeOf f)) =
       upTo-at 1 (λ i. slotOf f (sampleAt f d (from + i * sizeOf f)) ∷ []) (λ i. refl) n j 0 h (lit< tt) in
       let u : 0 + j ≡ j = omega arith in
       let w : j * 1 + 0 ≡ j = omega arith in
       rw e ((rw u at a) ∙ (rw w at b))
 
-  rest : (j : ℕ) → n ≤ j → getD block j 0 ≡ 0
-  rest j h = rw e (put-after (replicate 128 0) (slotsFrom f d from n) 0 zero-le j (rw (slots-length f d from n) (omega arith)) ∙ zero-at 128 j)
+  rest : (j : ℕ) → n ≤ j → getD block j 0 ≡ getD block₀ j 0
+  rest j h = rw e (put-after block₀ (slotsFrom f d from n) 0 zero-le j (rw (slots-length f d from n) (omega arith)))
 
-  pub all-slots : Slots block
-  all-slots j = elim (decLt j n) [
+  pub all-slots : Slots block₀ → Slots block
+  all-slots s j = elim (decLt j n) [
     | yes h ↦ rw (entry j h) (slot-below f (sampleAt f d (from + j * sizeOf f)) (sample-below f d (from + j * sizeOf f) below))
-    | no h ↦ rw (rest j (omega arith)) (lit< tt)
+    | no h ↦ rw (rest j (omega arith)) (s j)
   ]
 
+pub block-length : (f : Format) (d : List ℕ) (from n : ℕ) (block₀ block : List ℕ) → length block₀ ≡ 128 → n ≤ 128 → block ≡ put block₀ 0 (slotsFrom f d from n) → length block ≡ 128
+block-length f d from n block₀ block h m e =
+    ap length e ∙ put-length block₀ (slotsFrom f d from n) 0 (rw (slots-length f d from n) (omega arith)) ∙ h
+
 -- its frames are the packet's from the k-th on
-module _ (f : Format) (d : List ℕ) (below : (i : ℕ) → byte d i < 256) (from k channels n : ℕ) (block : List ℕ)
-    (e : block ≡ put (replicate 128 0) 0 (slotsFrom f d (from + k * (channels * sizeOf f)) (n * channels))) where
+module _ (f : Format) (d : List ℕ) (below : (i : ℕ) → byte d i < 256) (from k channels n : ℕ) (block₀ block : List ℕ)
+    (e : block ≡ put block₀ 0 (slotsFrom f d (from + k * (channels * sizeOf f)) (n * channels))) where
   same-slot : (i c : ℕ) → i < n → blockFrames block channels i c ≡ packetSlot f d from channels (k + i) c
   unfolding packetSlot
   same-slot i c h = elim (decLt c channels) [
@@ -156,7 +136,7 @@ module _ (f : Format) (d : List ℕ) (below : (i : ℕ) → byte d i < 256) (fro
         (let x : from + k * (channels * sizeOf f) + (i * channels + c) * sizeOf f ≡ from + (k + i) * (channels * sizeOf f) + c * sizeOf f =
         omega (arith, add-mul (i * channels) c (sizeOf f), mul-assoc i channels (sizeOf f), add-mul k i (channels * sizeOf f)) in
         rw (lt-ltb c channels l)
-        (entry f d below (from + k * (channels * sizeOf f)) (n * channels) block e (i * channels + c) (omega (arith, within i n channels h))
+        (entry f d below (from + k * (channels * sizeOf f)) (n * channels) block₀ block e (i * channels + c) (omega (arith, within i n channels h))
         ∙ ap (λ (y : ℕ). slotOf f (sampleAt f d y)) x))
     | no l ↦ rw (le-ltb c channels (omega arith))
   ]
@@ -176,28 +156,38 @@ laid-more t p k n g h =
     ∙ put-more t (upTo k r) (upTo n (λ i. r (k + i))) (p * 24) h
     ∙ ap (put t (p * 24)) (sym (upTo-more k n r))
 
--- after some turns: k frames laid
-pub record LayingBlocks (f : Format) (d : List ℕ) (from frames channels : ℕ) (track₀ : List ℕ) (place : ℕ) (track : List ℕ) (k : ℕ) : Type 0 where
+-- after some turns: k frames laid, by way of a block of 128 slots
+pub record LayingBlocks (f : Format) (d : List ℕ) (from frames channels : ℕ) (track₀ : List ℕ) (place : ℕ) (track : List ℕ) (k : ℕ) (block : List ℕ) : Type 0 where
   pub turns : k ≤ frames
+  pub long : length block ≡ 128
+  pub slots : Slots block
   pub same : length track ≡ length track₀
   pub so-far : track ≡ laidOf track₀ place k (packetSlot f d from channels)
 
 module _ (f : Format) (d : List ℕ) (from frames channels : ℕ) (track₀ : List ℕ) (place : ℕ) where
-  pub blocks-start : LayingBlocks f d from frames channels track₀ place track₀ 0
+  pub blocks-start : LayingBlocks f d from frames channels track₀ place track₀ 0 (replicate 128 0)
   unfolding laidOf recordsOf upTo
-  blocks-start = record { turns = zero-le; same = refl; so-far = put-none track₀ (place * 24) }
+  blocks-start = record {
+    turns = zero-le;
+    long = length-replicate {A = ℕ} 128 0;
+    slots = λ j. rw (zero-at 128 j) (lit< tt);
+    same = refl;
+    so-far = put-none track₀ (place * 24);
+  }
 
-  module _ (track : List ℕ) (k : ℕ) (l : LayingBlocks f d from frames channels track₀ place track k) where
-    pub blocks-next : ((i : ℕ) → byte d i < 256) → place * 24 + frames * 24 ≤ length track₀ → (n : ℕ) → k + n ≤ frames → (block track' : List ℕ)
-        → block ≡ put (replicate 128 0) 0 (slotsFrom f d (from + k * (channels * sizeOf f)) (n * channels))
+  module _ (track : List ℕ) (k : ℕ) (block₀ : List ℕ) (l : LayingBlocks f d from frames channels track₀ place track k block₀) where
+    pub blocks-next : ((i : ℕ) → byte d i < 256) → place * 24 + frames * 24 ≤ length track₀ → (n : ℕ) → k + n ≤ frames → n * channels ≤ 128 → (block track' : List ℕ)
+        → block ≡ put block₀ 0 (slotsFrom f d (from + k * (channels * sizeOf f)) (n * channels))
         → track' ≡ laidOf track (place + k) n (blockFrames block channels)
-        → LayingBlocks f d from frames channels track₀ place track' (k + n)
-    blocks-next below m n h block track' e p =
+        → LayingBlocks f d from frames channels track₀ place track' (k + n) block
+    blocks-next below m n h b block track' e p =
         let g = packetSlot f d from channels in
         let x : laidOf track (place + k) n (λ i. g (k + i)) ≡ laidOf track₀ place (k + n) g = rw (l .so-far) (laid-more track₀ place k n g (omega arith)) in
-        let y = p ∙ block-laid f d below from k channels n block e track (place + k) ∙ x in
+        let y = p ∙ block-laid f d below from k channels n block₀ block e track (place + k) ∙ x in
         record {
           turns = h;
+          long = block-length f d (from + k * (channels * sizeOf f)) (n * channels) block₀ block (l .long) b e;
+          slots = all-slots f d below (from + k * (channels * sizeOf f)) (n * channels) block₀ block e (l .slots);
           same = ap length y ∙ laid-length track₀ place (k + n) g (omega arith);
           so-far = y;
         }
@@ -222,7 +212,3 @@ module _ (k frames channels most n : ℕ) (h : k < frames) (e : n ≡ min (frame
 
   pub track-room : (place length : ℕ) → place * 24 + frames * 24 ≤ length → (place + k) * 24 + n * 24 ≤ length
   track-room place length m = omega (arith, no-more)
-
-pub block-length : (f : Format) (d : List ℕ) (from n : ℕ) (block : List ℕ) → n ≤ 128 → block ≡ put (replicate 128 0) 0 (slotsFrom f d from n) → length block ≡ 128
-block-length f d from n block m e =
-    ap length e ∙ put-length (replicate 128 0) (slotsFrom f d from n) 0 (rw (slots-length f d from n) (omega arith))

@@ -91,9 +91,9 @@ fn blocks(
     requires { ⌜ (channels ≤ 8) × (1 ≤ most) × (most * channels ≤ 128) × (from + frames * (channels * 4) ≤ length (now d)) × (place * 24 + frames * 24 ≤ length (now track)) ⌝ }
     ensures { λ _. ⌜ now (track .exit) ≡ laidOf (now (track .entry)) place frames (packetSlot Signed32 (now (d .entry)) from channels) ⌝ }
 {
+    let mut block = [0u32; 128];
     let mut k = 0;
     while k < frames {
-        let mut block = [0u32; 128];
         let n = at_most(frames - k, most);
         narrow_all(d, from + k * (channels * SIZE), n * channels, &mut block);
         lay_all(&block, n, channels, track, place + k);

@@ -1,11 +1,12 @@
 -- A frame of eight channels in runs, each stored in a part that is lent.
 use mathlib.Core.Path.{_≡_, sym, ap, _∙_}
-use mathlib.Core.List.{List, _++_, append-assoc, append-nil}
-use Prim.Native.Nat.{ℕ, zero, suc, _+_, _*_}
-use native.Mathlib.Nat.{add-zero, add-suc, add-assoc}
+use mathlib.Core.List.{List, _++_}
+use Prim.Native.Nat.{ℕ, _+_, _*_}
+use native.Mathlib.Nat.{add-zero, add-assoc}
 use lib.ListN.{length}
 use borrow.Rule.Slice.PartMut.{putMid}
 use Rattle.lists.specs.Lists.{upTo}
+use Rattle.lists.proofs.Lists.{upTo-same, upTo-more}
 use Rattle.samples.specs.declared.Format.{Format}
 use Rattle.samples.specs.Formats.{sizeOf}
 use Rattle.track.specs.Bytes.{sampleBytes}
@@ -22,10 +23,10 @@ module _ (f : Format) (t : List ℕ) (at : ℕ) where
   run-one c v p = rw (p, add-zero c)
 
   run-more : (c m n : ℕ) → runOut f t at c (m + n) ≡ runOut f t at c m ++ runOut f t at (c + m) n
-  unfolding runOut upTo
-  run-more c m zero = rw (add-zero m) (sym (append-nil (runOut f t at c m)))
-  run-more c m (suc n) =
-      rw (add-suc m n, run-more c m n, add-assoc c m n) (append-assoc (runOut f t at c m) (runOut f t at (c + m) n) _)
+  unfolding runOut
+  run-more c m n =
+      upTo-more m n (λ i. sampleBytes f (sentAt f t at (c + i)))
+      ∙ ap (λ (l : List ℕ). runOut f t at c m ++ l) (upTo-same n _ _ (λ i h. ap (λ (x : ℕ). sampleBytes f (sentAt f t at x)) (sym (add-assoc c m i))))
 
 -- a run of m and then a run of n, in parts side by side
 pub joined : (f : Format) (m n : ℕ) (t : List ℕ) (at c : ℕ) (out xs ys : List ℕ) → length out ≡ m * sizeOf f + n * sizeOf f

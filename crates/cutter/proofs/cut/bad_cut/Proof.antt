@@ -1,6 +1,7 @@
 -- Each test is one of the definition's.
 use borrow.Author.Needs.{needs}
 use Rattle.lists.proofs.Branches.{flag-yes, flag-no, less-yes, less-no}
+use Rattle.cutter.proofs.Sizes.{formed-few}
 use Rattle.cutter.proofs.cut.bad_cut.Statement.{statement}
 use Rattle.cutter.proofs.cut.bad_cut.Tie as tie
 
@@ -13,6 +14,6 @@ bad-cut-spec =
     (λ c κs. search needs)
     (λ c. search tests depth 8)
     (λ c. search tests depth 8)
-    (λ c κs. search needs)
+    (λ c κs. search (formed-few (c .before .before .before .before .before .args .h)))
     (λ c. search tests depth 8)
     (λ c. search tests depth 8))

@@ -1,22 +1,20 @@
--- Over 256, a frame without bytes, or by the product.
+-- By the product.
 use Prim.Native.Nat.{_*_, _≤_}
 use native.Mathlib.Nat.{mul-le-mul}
 use native.Mathlib.Omega.{arith}
 use borrow.Author.Needs.{needs}
-use Rattle.cutter.proofs.Sizes.{over-most, over-none, over-bytes}
+use Rattle.cutter.proofs.Sizes.{over-bytes}
 use Rattle.cutter.proofs.largest.is_over.Statement.{statement}
 use Rattle.cutter.proofs.largest.is_over.Tie as tie
 
 -- 256 frames of the most bytes that a frame has
-product : (c : tie.After-frame-bytes) → c .before .before .args .frames * c .frame-bytes .result ≤ 256 * 262140
-product c = mul-le-mul {n₂ = 256} {m₂ = 262140} (c .before .if1 .left) (c .frame-bytes .ensures .1)
+product : (c : tie.After-frame-bytes) → c .before .args .frames * c .frame-bytes .result ≤ 256 * 262140
+product c = mul-le-mul {n₂ = 256} {m₂ = 262140} (c .before .pre .0) (c .frame-bytes .ensures .1)
 
 pub is-over-spec : {M : Type 1} → statement M
 is-over-spec =
     tie.close
     (tie.spec
-    (λ c. search over-most)
     (λ c κs. search needs)
-    (λ c. search over-none)
-    (λ c. omega (arith, product (c .before)))
+    (λ c. omega (arith, product c))
     (λ c. search over-bytes))

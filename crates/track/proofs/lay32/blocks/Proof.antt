@@ -9,10 +9,10 @@ use Rattle.track.proofs.lay32.blocks.Statement.{statement}
 use Rattle.track.proofs.lay32.blocks.Tie as tie
 
 abbrev Inv : tie.InvT-loop
-Inv d from frames channels most track₀ place k₀ track k = LayingBlocks Signed32 d from frames channels track₀ place track k
+Inv d from frames channels most track₀ place block₀ k₀ track block k = LayingBlocks Signed32 d from frames channels track₀ place track k block
 
 abbrev μ : tie.MeasureT-loop
-μ d from frames channels most track₀ place k₀ track k = frames - k
+μ d from frames channels most track₀ place block₀ k₀ track block k = frames - k
 
 inside : (c : tie.In-loop Inv μ) → c .before .loop .k < c .before .before .before .before .args .frames
 inside c = search needs
@@ -41,8 +41,8 @@ asks c κs =
     let m = n .before .before in
     let l = m .before .before in
     let e = n .narrow-all .ensures in (
-      omega (arith, in-block m, block-length Signed32 _ _ _ _ (in-block m) e),
-      all-slots Signed32 _ (λ i. l .before .before .shared-slice-known .given i .fits) _ _ _ e,
+      omega (arith, in-block m, block-length Signed32 _ _ _ _ _ (l .loop .inv .long) (in-block m) e),
+      all-slots Signed32 _ (λ i. l .before .before .shared-slice-known .given i .fits) _ _ _ _ e (l .loop .inv .slots),
       omega (arith, place-there m, l .loop .inv .same),
     )
 
@@ -52,8 +52,8 @@ again c =
     let m = n .before .before in
     let l = m .before .before in
     let o = l .before .before .before in
-    blocks-next Signed32 (o .args .d .now) (o .args .from) (o .args .frames) (o .args .channels) (o .args .track .now) (o .args .place) _ _ (l .loop .inv)
-    (λ i. l .before .before .shared-slice-known .given i .fits) (o .pre .4) _ (no-more _ _ (o .args .channels) (o .args .most) _ (inside (m .before)) (m .at-most .ensures)) _ _
+    blocks-next Signed32 (o .args .d .now) (o .args .from) (o .args .frames) (o .args .channels) (o .args .track .now) (o .args .place) _ _ _ (l .loop .inv)
+    (λ i. l .before .before .shared-slice-known .given i .fits) (o .pre .4) _ (no-more _ _ (o .args .channels) (o .args .most) _ (inside (m .before)) (m .at-most .ensures)) (in-block m) _ _
     (n .narrow-all .ensures) (c .before .before .lay-all .ensures)
 
 pub blocks-spec : {M : Type 1} → statement M
@@ -70,7 +70,7 @@ blocks-spec =
     (λ c. omega (arith, data-there c))
     (λ c. omega (arith, in-block c))
     (λ c. search needs)
-    (λ c κs. (data-there (c .before), in-block (c .before)))
+    (λ c κs. (data-there (c .before), omega (arith, in-block (c .before), c .before .before .before .loop .inv .long)))
     (λ c. search needs)
     (λ c. omega (arith, place-there (c .before .before .before .before .before)))
     asks
