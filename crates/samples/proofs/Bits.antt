@@ -2,7 +2,7 @@
 -- for is the definition's. Over the width.
 use mathlib.Core.Path.{_≡_, refl, ap, _∙_, subst}
 use mathlib.Core.Bool.{true, false≢true}
-use Prim.Native.Nat.{ℕ, suc, _+_, _-_, _^_, _≤_, _<_}
+use Prim.Native.Nat.{ℕ, suc, _+_, _-_, _*_, _%_, _^_, _≤_, _<_}
 use native.Mathlib.Nat.{mod-lt, mod-eq-of-lt, add-mod-right}
 use native.Mathlib.Omega.{arith}
 use native.Mathlib.Decide.{decLt}
@@ -17,7 +17,7 @@ use Rattle.samples.specs.Formats.{widthOf, has}
 use Rattle.samples.specs.Convert.{biasOf, rank, placeOf, numberAt, rescaled, converted, carried}
 use Rattle.samples.specs.Nearest.{valueOf, Nearest}
 use Rattle.samples.specs.Wire.{signedOf, bitsOf, sampleOf, sampleBits, slotOf, sentOf}
-use Rattle.samples.proofs.Places.{doubles, sub-le, sub-lt, sub-mag, sub-rank, rank-lt}
+use Rattle.samples.proofs.Places.{doubles, sub-le, sub-lt, sub-mag, sub-rank, rank-sub, rank-lt}
 use Rattle.samples.proofs.Formats.{place-lt, place-back, number-has}
 use Rattle.samples.proofs.Rescaled.{rescaled-lt}
 use Rattle.samples.proofs.Nearest.{converted-has, converted-nearest, converted-same}
@@ -34,6 +34,21 @@ module _ (w : ℕ) (h : 1 ≤ w) where
     | yes g ↦ rw (lt-ltb u H g) g
     | no g ↦ rw (le-ltb u H (omega arith), sub-lt u (2 ^ w) l) (omega (arith, doubles w h))
   ]
+
+  -- with half the numbers added, the rest by all of them is the number's place
+  pub signed-place : (u : ℕ) → u < 2 ^ w → subℕ ((u + H) % (H * 2)) H ≡ signedOf w u
+  unfolding signedOf
+  signed-place u l =
+      let d = doubles w h in
+      elim (decLt u H) [
+        | yes g ↦
+            (let a : (u + H) % (H * 2) ≡ u + H = mod-eq-of-lt (omega arith) in
+            rw (lt-ltb u H g, a) (sub-le (u + H) H (omega arith) ∙ ap pos (omega arith)))
+        | no g ↦
+            (let b : u + H ≡ (u - H) + H * 2 = omega arith in
+            let a : (u + H) % (H * 2) ≡ u - H = ap (λ (y : ℕ). y % (H * 2)) b ∙ add-mod-right (u - H) (H * 2) ∙ mod-eq-of-lt (omega arith) in
+            rw (le-ltb u H (omega arith), a, sub-lt (u - H) H (omega arith), sub-lt u (2 ^ w) l) (ap negsuc (omega arith)))
+      ]
 
   pub bits-lt : (n : ℤ) → bitsOf w n < 2 ^ w
   unfolding bitsOf
@@ -147,3 +162,8 @@ module _ (f : Format) (s : ℕ) (l : s < 2 ^ 24) where
 -- a 24-bit sample is the slot
 pub same-bits : (u : ℕ) → u < 2 ^ 24 → bitsOf 24 (converted Signed24 Signed24 (signedOf 24 u)) ≡ u
 same-bits u l = rw (converted-same Signed24 (signedOf 24 u) (sample-has Signed24 u l)) (signed-bits 24 (lit≤ tt) u l)
+
+-- a byte less 128, of 8 bits, widened is the byte's slot
+pub byte-slot : (x : ℕ) → bitsOf 24 (subℕ (rescaled 8 24 (rank 128 (subℕ x 128))) 8388608) ≡ slotOf Unsigned8 x
+unfolding slotOf converted
+byte-slot x = ap (λ (y : ℕ). bitsOf 24 (subℕ (rescaled 8 24 y) 8388608)) (rank-sub 128 x ∙ omega arith)

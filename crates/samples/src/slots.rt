@@ -1,6 +1,6 @@
 // Each wire type's sample as a slot, and a slot as each wire type's sample, bits to bits: the track's loops call these.
 ghost use mathlib.Core.Path.{_≡_};
-ghost use Prim.Native.Nat.{_-_, _^_, _≤_, _<_};
+ghost use Prim.Native.Nat.{_+_, _-_, _%_, _^_, _≤_, _<_};
 ghost use lib.IntN.{subℕ};
 ghost use Rattle.samples.specs.declared.Format.the-variants.{Unsigned8, Signed16, Signed24, Signed32};
 ghost use Rattle.samples.specs.Convert.{rank, rescaled};
@@ -20,6 +20,14 @@ pub fn from_unsigned8(u: u32) -> u32
     ensures { λ r. ⌜ (r ≡ slotOf Unsigned8 u) × (r < 2 ^ 24) ⌝ }
 {
     numbers::bits(numbers::rescale(u as i32 - 128, 8, 24), 24)
+}
+
+// The same of a byte that comes less 128, as a signed one: a caller may take 128 from all the bytes of a word at once.
+pub fn from_signed8(u: u32) -> u32
+    requires { ⌜ u < 2 ^ 8 ⌝ }
+    ensures { λ r. ⌜ (r ≡ slotOf Unsigned8 ((u + 128) % 256)) × (r < 2 ^ 24) ⌝ }
+{
+    moved(u, 8, 24)
 }
 
 pub fn from_signed16(u: u32) -> u32

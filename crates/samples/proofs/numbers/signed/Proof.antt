@@ -1,21 +1,20 @@
--- With half the numbers added, the rest by all of them is the number's place.
-use mathlib.Core.Path.{_≡_, ap, _∙_}
+-- The sum, the rest and the difference fit; that they give the number is `signed-place`.
+use mathlib.Core.Path.{_≡_}
 use Prim.Native.Nat.{ℕ, _+_, _-_, _*_, _%_, _^_, _≤_, _<_}
-use native.Mathlib.Nat.{mod-lt, mod-eq-of-lt, add-mod-right}
+use native.Mathlib.Nat.{mod-lt}
 use native.Mathlib.Omega.{arith}
-use native.Mathlib.Decide.{decLt}
 use lib.Dec.{T}
-use lib.IntN.{ℤ, pos, negsuc, natAbs, subℕ, _-ℤ_}
+use lib.IntN.{ℤ, pos, natAbs, subℕ, _-ℤ_}
 use lib.Pow.{pow-pos, pow-mono}
 use lib.Signed.{nonNeg}
 use mir.Syntax.{w32, w64}
 use mir.Val.{Fits, SFits, toZ}
 use mir.Facts.{toZ-ofZ, toZ-pos}
 use borrow.Author.Needs.{needs}
-use borrow.Author.Tests.{lt-ltb, le-ltb}
 use Rattle.samples.specs.Wire.{signedOf}
 use Rattle.samples.proofs.Machine.{Long, Int, back, wider}
-use Rattle.samples.proofs.Places.{doubles, sub-le, sub-lt, sub-mag, pos-minus}
+use Rattle.samples.proofs.Places.{doubles, sub-mag, pos-minus}
+use Rattle.samples.proofs.Bits.{signed-place}
 use Rattle.samples.proofs.numbers.signed.Statement.{statement}
 use Rattle.samples.proofs.numbers.signed.Tie as tie
 
@@ -71,20 +70,8 @@ module _ (u w : ℕ) (h : (1 ≤ w) × (w ≤ 32) × (u < 2 ^ w)) (p : ℤ) (e :
   fits-back : SFits w32 (Long (toZ w64 ((u + natAbs (Long p)) % (natAbs (Long p) * 2)) -ℤ Long p))
   fits-back = rw (less, toZ-ofZ (wider fits-int)) fits-int
 
-  place : subℕ x H ≡ signedOf w u
-  unfolding signedOf
-  place = elim (decLt u H) [
-    | yes l ↦
-        (let a : x ≡ u + H = mod-eq-of-lt (omega arith) in
-        rw (lt-ltb u H l, a) (sub-le (u + H) H (omega arith) ∙ ap pos (omega arith)))
-    | no l ↦
-        (let b : u + H ≡ (u - H) + H * 2 = omega arith in
-        let a : x ≡ u - H = ap (λ (y : ℕ). y % (H * 2)) b ∙ add-mod-right (u - H) (H * 2) ∙ mod-eq-of-lt (omega (arith, below)) in
-        rw (le-ltb u H (omega arith), a, sub-lt (u - H) H (omega (arith, below)), sub-lt u (2 ^ w) (h .2)) (ap negsuc (omega (arith, doubles w (h .0), below))))
-  ]
-
   is-signed : Int (Long (toZ w64 ((u + natAbs (Long p)) % (natAbs (Long p) * 2)) -ℤ Long p)) ≡ signedOf w u
-  is-signed = rw (less, toZ-ofZ (wider fits-int), toZ-ofZ fits-int) place
+  is-signed = rw (less, toZ-ofZ (wider fits-int), toZ-ofZ fits-int) (signed-place w (h .0) u (h .2))
 
 pub signed-spec : {M : Type 1} → statement M
 signed-spec =

@@ -1,6 +1,6 @@
 -- The byte less 128 is its place from the middle.
-use mathlib.Core.Path.{_≡_, ap, _∙_}
-use Prim.Native.Nat.{ℕ, _-_, _^_, _<_}
+use mathlib.Core.Path.{_≡_, _∙_}
+use Prim.Native.Nat.{ℕ, _^_, _<_}
 use native.Mathlib.Omega.{arith}
 use lib.IntN.{pos, subℕ, _-ℤ_}
 use lib.Signed.{mag}
@@ -8,10 +8,8 @@ use mir.Syntax.{w32}
 use mir.Val.{SFits, toZ}
 use mir.Facts.{toZ-pos}
 use borrow.Author.Needs.{needs}
-use Rattle.samples.specs.declared.Format.the-variants.{Unsigned8}
-use Rattle.samples.specs.Convert.{rank, rescaled, converted}
-use Rattle.samples.specs.Wire.{bitsOf, slotOf}
-use Rattle.samples.proofs.Places.{pos-minus, rank-sub, sub-mag}
+use Rattle.samples.proofs.Places.{pos-minus, sub-mag}
+use Rattle.samples.proofs.Bits.{byte-slot}
 use Rattle.samples.proofs.Moves.{bits8, bits24, room, room-bits, bits-there}
 use Rattle.samples.proofs.slots.from_unsigned8.Statement.{statement}
 use Rattle.samples.proofs.slots.from_unsigned8.Tie as tie
@@ -26,17 +24,13 @@ module _ (u : ℕ) (h : u < 2 ^ 8) where
   fits : SFits w32 (toZ w32 u -ℤ pos 128)
   fits = rw less (record { sfits = omega (arith, small) })
 
-  laid : (b : ℕ) → b ≡ bitsOf 24 (subℕ (rescaled 8 24 (rank 128 (subℕ u 128))) 8388608) → b ≡ slotOf Unsigned8 u
-  unfolding slotOf converted
-  laid b e = e ∙ ap (λ (x : ℕ). bitsOf 24 (subℕ (rescaled 8 24 x) 8388608)) (rank-sub 128 u ∙ omega arith)
-
 returns : tie.Need-returns
 returns c =
     let o = c .before .before in
     let u = o .args .u in
     let f = fits u (o .pre) in
     let x = bits-there 8 24 (subℕ u 128) bits8 bits24 (small u (o .pre)) _ (f .sfits) (less u (o .pre)) _ (c .before .rescale .ok) (c .before .rescale .ensures) _ (c .bits .ensures) in
-    (laid u (o .pre) _ (x .0), x .1)
+    (x .0 ∙ byte-slot u, x .1)
 
 pub from-unsigned8-spec : {M : Type 1} → statement M
 from-unsigned8-spec =
