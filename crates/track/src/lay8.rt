@@ -1,6 +1,7 @@
 // Laying unsigned samples of 8 bits.
 ghost use mathlib.Core.Path.{_≡_};
 ghost use Prim.Native.Nat.{_+_, _*_, _/_, _%_, _<_, _≤_};
+ghost use lib.Bits.{bitXor};
 ghost use lib.ListN.{length};
 ghost use Rattle.samples.specs.declared.Format.the-variants.{Unsigned8};
 ghost use Rattle.samples.specs.Wire.{slotOf};
@@ -59,12 +60,19 @@ fn some(d: &[u8], from: usize, frames: usize, channels: usize, track: &mut [u8],
     }
 }
 
-// The slot of one byte of a word.
+// Eight bytes less 128 each, as signed ones: at once, since the top bit of each is all that differs.
+fn centred(w: u64) -> u64
+    ensures { λ r. ⌜ r ≡ bitXor w 0x8080808080808080 ⌝ }
+{
+    w ^ 0x8080808080808080
+}
+
+// The slot of one of a word's signed bytes.
 fn part(w: u64, p: u64) -> u64
     requires { ⌜ 0 < p ⌝ }
-    ensures { λ r. ⌜ (r ≡ slotOf Unsigned8 (w / p % 256)) × (r < 16777216) ⌝ }
+    ensures { λ r. ⌜ (r ≡ slotOf Unsigned8 ((w / p % 256 + 128) % 256)) × (r < 16777216) ⌝ }
 {
-    words::wider(slots::from_unsigned8((w / p % 256) as u32))
+    words::wider(slots::from_signed8((w / p % 256) as u32))
 }
 
 // A frame of eight channels is one word.
@@ -72,7 +80,7 @@ fn full_frame(d: &[u8], from: usize, out: &mut [u8])
     requires { ⌜ (from + 8 * 1 ≤ length (now d)) × (length (now out) ≡ 24) ⌝ }
     ensures { λ _. ⌜ now (out .exit) ≡ recordOf (frameSlot Unsigned8 (now (d .entry)) from 8) ⌝ }
 {
-    let w = words::get8(d, from);
+    let w = centred(words::get8(d, from));
     words::put_record(
         out,
         part(w, 1),

@@ -1,9 +1,11 @@
 -- The bytes of the word are the frame's samples.
-use mathlib.Core.Path.{_≡_, refl}
+use mathlib.Core.Path.{_≡_, refl, ap, _∙_}
 use mathlib.Core.List.{List}
-use Prim.Native.Nat.{ℕ, _+_, _*_, _/_, _%_, _<_}
-use native.Mathlib.Nat.{add-zero, add-assoc}
+use Prim.Native.Nat.{ℕ, _+_, _*_, _/_, _%_, _^_, _<_}
+use native.Mathlib.Nat.{add-zero, add-assoc, mod-lt}
 use native.Mathlib.Omega.{arith}
+use native.Mathlib.Decide.{decLt}
+use lib.Bits.{bitXor, xor-zero-r, xor-self, xor-block, xor-shr, xor-mod}
 use lib.Dec.{lit<}
 use borrow.Author.Needs.{needs}
 use Rattle.lists.specs.Lists.{byte}
@@ -15,6 +17,28 @@ use Rattle.track.specs.Frames.{frameSlot}
 use Rattle.track.proofs.Laying.{heard, framed}
 use Rattle.track.proofs.lay8.full_frame.Statement.{statement}
 use Rattle.track.proofs.lay8.full_frame.Tie as tie
+
+-- the top bit of each of eight bytes
+abbrev Tops : ℕ
+Tops = 0x8080808080808080
+
+-- a byte with its top bit flipped is 128 away
+flipped : (b : ℕ) → b < 256 → bitXor b 128 ≡ (b + 128) % 256
+flipped b l =
+    let e : b ≡ b / 128 * 2 ^ 7 + b % 128 = omega arith in
+    ap (λ (x : ℕ). bitXor x 128) e ∙ xor-block 7 (b / 128) 1 (b % 128) 0 (omega arith) (lit< tt)
+    ∙ elim (decLt b 128) [
+      | yes g ↦ (let z : b / 128 ≡ 0 = omega arith in rw (z, xor-zero-r (b % 128)) (omega arith))
+      | no g ↦ (let z : b / 128 ≡ 1 = omega arith in rw (z, xor-self 1, xor-zero-r (b % 128)) (omega arith))
+    ]
+
+-- so 128 more is the byte again
+centred-byte : (v k : ℕ) → Tops / 2 ^ k % 256 ≡ 128 → (bitXor v Tops / 2 ^ k % 256 + 128) % 256 ≡ v / 2 ^ k % 256
+centred-byte v k t =
+    let l : v / 2 ^ k % 256 < 256 = mod-lt (v / 2 ^ k) (lit< tt) in
+    let e : bitXor v Tops / 2 ^ k % 256 ≡ (v / 2 ^ k % 256 + 128) % 256 =
+    ap (λ (x : ℕ). x % 256) (xor-shr v Tops k) ∙ xor-mod (v / 2 ^ k) (Tops / 2 ^ k) 8 ∙ rw t (flipped (v / 2 ^ k % 256) l) in
+    rw e (omega arith)
 
 module _ (d : List ℕ) (below : (i : ℕ) → byte d i < 256) (from : ℕ) where
   word-bytes : (w : ℕ) → w ≡ wordAt d from
@@ -36,28 +60,31 @@ module _ (d : List ℕ) (below : (i : ℕ) → byte d i < 256) (from : ℕ) wher
         omega arith,
       )
 
-  word-framed : (out : List ℕ) (w r0 r1 r2 r3 r4 r5 r6 r7 : ℕ) → w ≡ wordAt d from → out ≡ slots r0 r1 r2 r3 r4 r5 r6 r7
-      → r0 ≡ slotOf Unsigned8 (w / 1 % 256) → r1 ≡ slotOf Unsigned8 (w / 256 % 256) → r2 ≡ slotOf Unsigned8 (w / 65536 % 256)
-      → r3 ≡ slotOf Unsigned8 (w / 16777216 % 256) → r4 ≡ slotOf Unsigned8 (w / 4294967296 % 256)
-      → r5 ≡ slotOf Unsigned8 (w / 1099511627776 % 256) → r6 ≡ slotOf Unsigned8 (w / 281474976710656 % 256)
-      → r7 ≡ slotOf Unsigned8 (w / 72057594037927936 % 256) → out ≡ recordOf (frameSlot Unsigned8 d from 8)
-  word-framed out w r0 r1 r2 r3 r4 r5 r6 r7 e p e0 e1 e2 e3 e4 e5 e6 e7 =
-      let b = word-bytes w e in
-      let one : (c u r : ℕ) → c < 8 → u ≡ byte d (from + c * 1) → r ≡ slotOf Unsigned8 u → r ≡ frameSlot Unsigned8 d from 8 c
-      = λ c u r h q s. heard Unsigned8 d from 8 c u r r h q s refl in
+  word-framed : (out : List ℕ) (v w r0 r1 r2 r3 r4 r5 r6 r7 : ℕ) → v ≡ wordAt d from → w ≡ bitXor v Tops → out ≡ slots r0 r1 r2 r3 r4 r5 r6 r7
+      → r0 ≡ slotOf Unsigned8 ((w / 1 % 256 + 128) % 256) → r1 ≡ slotOf Unsigned8 ((w / 256 % 256 + 128) % 256)
+      → r2 ≡ slotOf Unsigned8 ((w / 65536 % 256 + 128) % 256) → r3 ≡ slotOf Unsigned8 ((w / 16777216 % 256 + 128) % 256)
+      → r4 ≡ slotOf Unsigned8 ((w / 4294967296 % 256 + 128) % 256) → r5 ≡ slotOf Unsigned8 ((w / 1099511627776 % 256 + 128) % 256)
+      → r6 ≡ slotOf Unsigned8 ((w / 281474976710656 % 256 + 128) % 256) → r7 ≡ slotOf Unsigned8 ((w / 72057594037927936 % 256 + 128) % 256)
+      → out ≡ recordOf (frameSlot Unsigned8 d from 8)
+  word-framed out v w r0 r1 r2 r3 r4 r5 r6 r7 e x p e0 e1 e2 e3 e4 e5 e6 e7 =
+      let b = word-bytes v e in
+      let one : (c k r : ℕ) → c < 8 → Tops / 2 ^ k % 256 ≡ 128 → v / 2 ^ k % 256 ≡ byte d (from + c * 1)
+      → r ≡ slotOf Unsigned8 ((w / 2 ^ k % 256 + 128) % 256) → r ≡ frameSlot Unsigned8 d from 8 c
+      = λ c k r h t q s. heard Unsigned8 d from 8 c _ r r h (rw x (centred-byte v k t) ∙ q) s refl in
       framed (frameSlot Unsigned8 d from 8) out r0 r1 r2 r3 r4 r5 r6 r7 p
-      (one 0 _ r0 (lit< tt) (b .0) e0) (one 1 _ r1 (lit< tt) (b .1) e1) (one 2 _ r2 (lit< tt) (b .2) e2) (one 3 _ r3 (lit< tt) (b .3) e3)
-      (one 4 _ r4 (lit< tt) (b .4) e4) (one 5 _ r5 (lit< tt) (b .5) e5) (one 6 _ r6 (lit< tt) (b .6) e6) (one 7 _ r7 (lit< tt) (b .7) e7)
+      (one 0 0 r0 (lit< tt) refl (b .0) e0) (one 1 8 r1 (lit< tt) refl (b .1) e1) (one 2 16 r2 (lit< tt) refl (b .2) e2) (one 3 24 r3 (lit< tt) refl (b .3) e3)
+      (one 4 32 r4 (lit< tt) refl (b .4) e4) (one 5 40 r5 (lit< tt) refl (b .5) e5) (one 6 48 r6 (lit< tt) refl (b .6) e6) (one 7 56 r7 (lit< tt) refl (b .7) e7)
 
 returns : tie.Need-returns
 returns c =
-    let o = c .before .before .before .before .before .before .before .before .before .before .before .before .before .before in
+    let o = c .before .before .before .before .before .before .before .before .before .before .before .before .before .before .before in
     search (word-framed (o .before .args .d .now) (λ i. o .shared-slice-known .given i .fits))
 
 pub full-frame-spec : {M : Type 1} → statement M
 full-frame-spec =
     tie.close
     (tie.spec
+    (λ c κs. search needs)
     (λ c κs. search needs)
     (λ c κs. search needs)
     (λ c κs. search needs)
