@@ -29,6 +29,7 @@ use Rattle.take.specs.declared.follow.Judged.{Judged}
 use Rattle.take.specs.Take.{noTake, openOf, openedTrack}
 use Rattle.take.specs.Tally.{cleared as clear-tally, raisedOf}
 use Rattle.take.specs.Follow.{placeOf, skippedOf, late, followRows, answerOf, judgedOf, followedBy, acceptedBy, outcomeOf, followOf, laidKnown, followedTrack}
+use Rattle.take.proofs.Checks.{at-zero}
 use Rattle.take.proofs.Exactly.{refused-track, follow-track, follow-refused, follow-accepted}
 
 -- ---- a packet's records
@@ -129,16 +130,13 @@ module _ (t : Take) (address : ℕ) (d track : List ℕ) (held : ℕ) (eh : held
         ∙ rw (header-is, laid-unnamed (indexed (headerOf d .format)) d (headerOf d) (placeOf t (headerOf d)) track)
         (sym (follow-track t address d track pass))
 
--- a first packet's place is 0, and nothing was skipped
+-- a first packet: nothing was skipped
 module _ (t : Take) (h : Header) (b : t .begun ≡ false) where
-  pub at-zero : 0 ≡ placeOf t h
-  at-zero = rw b
-
   pub first-accepted : (k : Take) → k ≡ followedBy t h → record { answer = Accepted; place = 0; frames = h .frames; skipped = 0; take = k } ≡ acceptedBy t h
   first-accepted k e = rw (e, b)
 
   pub first-laid : (d track after : List ℕ) → after ≡ laidKnown (indexed (h .format)) d h 0 track → after ≡ laidKnown (indexed (h .format)) d h (placeOf t h) track
-  first-laid d track after q = q ∙ ap (λ (x : ℕ). laidKnown (indexed (h .format)) d h x track) at-zero
+  first-laid d track after q = q ∙ ap (λ (x : ℕ). laidKnown (indexed (h .format)) d h x track) (at-zero t h b)
 
 module _ (t : Take) (h : Header) (p : ℕ) (e : p ≡ placeOf t h) where
   pub next-accepted : (s : ℕ) (k : Take) → s ≡ skippedOf t h → k ≡ followedBy t h

@@ -20,7 +20,7 @@ same-slot u l = same-bits u l
 
 module _ (d : List ℕ) (below : (i : ℕ) → byte d i < 256) where
   -- eight samples from byte a on
-  pub eight-samples : (a : ℕ) (g : ℕ → ℕ) → a + 24 ≤ length d → ((c : ℕ) → c < 8 → g c ≡ sampleAt Signed24 d (a + c * 3))
+  eight-samples : (a : ℕ) (g : ℕ → ℕ) → a + 24 ≤ length d → ((c : ℕ) → c < 8 → g c ≡ sampleAt Signed24 d (a + c * 3))
       → upTo 8 (λ c. sampleBytes Signed24 (g c)) ≡ take 24 (drop a d)
   eight-samples a g h e = upTo-run 3 a 8 d (λ c. sampleBytes Signed24 (g c)) (λ c l.
       ap (sampleBytes Signed24) (e c l) ∙ bytes-back Signed24 d (a + c * 3) (omega arith) below)

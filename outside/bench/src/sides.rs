@@ -90,7 +90,8 @@ impl Side for Rival {
 
     #[inline]
     fn cut(form: &Form, track: &[u8], k: u32, out: &mut [u8], written: &mut usize) -> u8 {
-        rival::cut(form, track, k, out, written)
+        let Form { rate, frames, channels, format, name, counter } = *form;
+        rival::cut(rate, frames, channels, format, name, counter, track, k, out, written)
     }
 
     fn count(&self, number: u8) -> u32 {

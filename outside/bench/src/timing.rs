@@ -96,10 +96,10 @@ pub fn refused<S: Side>(address: u32, due: u8) -> Sweep {
 /// Cuts every whole packet of a track.
 pub fn cut<S: Side>(shape: Shape) -> Sweep {
     Box::new(move |sweeps, Lent { track, out, .. }| {
-        let (mut answers, mut written) = (0, 0);
+        let (mut answers, mut written, form) = (0, 0, shape.form());
         for _ in 0..sweeps {
             for k in 0..shape.packets() {
-                answers |= S::cut(&shape.form(), black_box(track), k, black_box(out), &mut written);
+                answers |= S::cut(black_box(&form), black_box(track), k, black_box(out), &mut written);
             }
         }
         assert_eq!(answers, 0);

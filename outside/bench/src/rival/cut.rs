@@ -39,9 +39,23 @@ fn packet(form: &Form, track: &[u8], k: u32, out: &mut [u8]) -> Result<usize, u8
     Ok(length)
 }
 
+/// With the parameters of the proved function, so that a call costs both the same.
 #[inline(never)]
-pub fn cut(form: &Form, track: &[u8], k: u32, out: &mut [u8], written: &mut usize) -> u8 {
-    let (answer, length) = match packet(form, track, k, out) {
+#[allow(clippy::too_many_arguments)]
+pub fn cut(
+    rate: u8,
+    frames: u16,
+    channels: u16,
+    format: u8,
+    name: &[u8; 16],
+    counter: u32,
+    track: &[u8],
+    k: u32,
+    out: &mut [u8],
+    written: &mut usize,
+) -> u8 {
+    let form = Form { rate, frames, channels, format, name, counter };
+    let (answer, length) = match packet(&form, track, k, out) {
         Ok(length) => (0, length),
         Err(refusal) => (refusal, 0),
     };

@@ -1,6 +1,7 @@
 -- Laid at place 0.
 use borrow.Author.Needs.{needs}
-use Rattle.take.proofs.Following.{at-zero, first-accepted, first-laid}
+use Rattle.take.proofs.Checks.{at-zero}
+use Rattle.take.proofs.Following.{first-accepted, first-laid}
 use Rattle.take.proofs.follow.begin.Statement.{statement}
 use Rattle.take.proofs.follow.begin.Tie as tie
 
