@@ -1,7 +1,7 @@
 // Widening and narrowing signed numbers, and numbers as their bits.
 ghost use mathlib.Core.Path.{_≡_};
 ghost use Prim.Native.Nat.{_+_, _-_, _%_, _^_, _≤_, _<_};
-ghost use lib.IntN.{pos, natAbs, subℕ, _*ℤ_};
+ghost use lib.IntN.{pos, negsuc, natAbs, subℕ, _*ℤ_};
 ghost use lib.Signed.{mag, ltZ};
 ghost use Rattle.lists.specs.Tables.{choose};
 ghost use Rattle.samples.specs.Convert.{rank, narrowed, rescaled};
@@ -30,12 +30,6 @@ fn odd(q: i32) -> i32
     if q % 2 == 0 { 0 } else { 1 }
 }
 
-fn lesser(n: i32, m: i32) -> i32
-    ensures { λ r. ⌜ r ≡ choose (ltZ n m) n m ⌝ }
-{
-    if n < m { n } else { m }
-}
-
 // A number of so many bits as one of `k` bits more: its value stays.
 pub fn widen(n: i32, k: u32) -> i32
     requires { ⌜ (k ≤ 32) × (mag (n *ℤ pos (2 ^ k)) < 2 ^ 31) ⌝ }
@@ -52,16 +46,23 @@ fn last(w: u32, k: u32) -> i32
     (power(w - 1) - power(k - 1) - 1) as i32
 }
 
+// What is added before the low bits go: half a step less one. Past `last` it is -1: there the whole part is the highest number,
+// which is odd, so that -1 and the 1 for odd leave the number as it is, and no sum leaves 32 bits.
+fn half_step(n: i32, last: i32, half: i32) -> i32
+    ensures { λ r. ⌜ r ≡ choose (ltZ last n) (negsuc 0) half ⌝ }
+{
+    if last < n { -1 } else { half }
+}
+
 // A number of `v + k` bits as one of `v` bits: half a step less one, and one more where the whole part is odd,
-// takes what is past half up and a tie to the even one. What would be past the end is clipped first, so that no sum leaves 32 bits.
+// takes what is past half up and a tie to the even one.
 pub fn narrow(n: i32, k: u32, v: u32) -> i32
     requires { ⌜ (1 ≤ k) × (2 ≤ v) × (v + k ≤ 32) × (mag n < 2 ^ (v + k - 1)) ⌝ }
     ensures { λ r. ⌜ r ≡ subℕ (narrowed k v (rank (2 ^ (v + k - 1)) n)) (2 ^ (v - 1)) ⌝ }
 {
-    let half = power_small(k - 1) - 1;
-    let m = lesser(n, last(v + k, k));
-    let whole = m >> k;
-    let risen = m + half + odd(whole);
+    let half = half_step(n, last(v + k, k), power_small(k - 1) - 1);
+    let whole = n >> k;
+    let risen = n + half + odd(whole);
     risen >> k
 }
 
