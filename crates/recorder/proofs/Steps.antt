@@ -172,7 +172,7 @@ module _ (T N : ℕ) (h : Header) (f : Format) (bytes : ℕ → List ℕ) (sourc
         track-is : followedTrack (b .take) (e .address) (e .datagram) (b .track) ≡ laid
         track-is =
             follow-track (b .take) (e .address) (e .datagram) (b .track) accepted
-            ∙ subst (λ (y : Header). laidKnown (indexed (y .format)) (e .datagram) y place (b .track) ≡ laid) (sym (header-is k is)) (rw (x .format))
+            ∙ subst (λ (y : Header). laidKnown (indexed (y .format)) (e .datagram) (y .frames) (y .channels) place (b .track) ≡ laid) (sym (header-is k is)) (rw (x .format))
 
         placed-at : (k₀ : ℕ) → B .first k₀ → place ≡ (k - k₀) * N
         placed-at =

@@ -189,7 +189,7 @@ module _ (t : Take) (address : ℕ) (d track : List ℕ) where
   refused-track z = rw (refusal-number answer z)
 
   -- acceptance lays the packet's records at its place
-  pub follow-track : answer ≡ Accepted → followedTrack t address d track ≡ laidKnown (indexed (headerOf d .format)) d (headerOf d) (placeOf t (headerOf d)) track
+  pub follow-track : answer ≡ Accepted → followedTrack t address d track ≡ laidKnown (indexed (headerOf d .format)) d (headerOf d .frames) (headerOf d .channels) (placeOf t (headerOf d)) track
   unfolding followedTrack
   follow-track e = rw e
 

@@ -16,7 +16,7 @@ use Rattle.answers.proofs.Numbers.{accepts, refuses}
 use Rattle.samples.specs.declared.Format.{Format}
 use Rattle.samples.specs.declared.Indexed.{Indexed}
 use Rattle.samples.specs.declared.Indexed.the-variants.{Known, Unknown}
-use Rattle.samples.specs.Formats.{indexed, sizeOf, sizeKnown}
+use Rattle.samples.specs.Formats.{indexed, sizeOf, sizeAt, sizeKnown}
 use Rattle.wire.specs.declared.header.Header.{Header}
 use Rattle.wire.specs.Names.{goodName, keptName}
 use Rattle.wire.specs.Header.{headerOf, unnamed, dataSize}
@@ -34,18 +34,18 @@ use Rattle.take.proofs.Exactly.{refused-track, follow-track, follow-ref
 
 -- ---- a packet's records
 
-module _ (h : Header) (i : Indexed) (e : i ≡ indexed (h .format)) (d track : List ℕ) (place : ℕ) where
-  pub no-format : i ≡ Unknown → track ≡ laidKnown (indexed (h .format)) d h place track
+module _ (format frames channels : ℕ) (i : Indexed) (e : i ≡ indexed format) (d track : List ℕ) (place : ℕ) where
+  pub no-format : i ≡ Unknown → track ≡ laidKnown (indexed format) d frames channels place track
   no-format k = rw (sym e ∙ k)
 
   module _ (f : Format) (k : i ≡ Known f) where
-    pub lay-data : length d ≡ 28 + dataSize h → 28 + h .frames * (h .channels * sizeOf f) ≤ length d
+    pub lay-data : length d ≡ 28 + frames * channels * sizeAt format → 28 + frames * (channels * sizeOf f) ≤ length d
     lay-data p =
-        let s : sizeKnown (indexed (h .format)) ≡ sizeOf f = ap sizeKnown (sym e ∙ k) in
-        let m : dataSize h ≡ h .frames * (h .channels * sizeOf f) = ap (λ (n : ℕ). h .frames * h .channels * n) s ∙ mul-assoc (h .frames) (h .channels) (sizeOf f) in
+        let s : sizeKnown (indexed format) ≡ sizeOf f = ap sizeKnown (sym e ∙ k) in
+        let m : frames * channels * sizeAt format ≡ frames * (channels * sizeOf f) = ap (λ (n : ℕ). frames * channels * n) s ∙ mul-assoc frames channels (sizeOf f) in
         omega (arith, p, m)
 
-    pub by-format : (t : List ℕ) → t ≡ laidOf track place (h .frames) (packetSlot f d 28 (h .channels)) → t ≡ laidKnown (indexed (h .format)) d h place track
+    pub by-format : (t : List ℕ) → t ≡ laidOf track place frames (packetSlot f d 28 channels) → t ≡ laidKnown (indexed format) d frames channels place track
     by-format t p = p ∙ rw (sym e ∙ k)
 
 -- ---- following
@@ -62,11 +62,6 @@ module _ (t : Take) (address : ℕ) (d : List ℕ) (held : ℕ) (e : answerOf t 
   after-audio =
       let r = passed .1 .1 .1 .1 .1 .1 .1 .1 .1 .1 .1 in
       (r .0, r .1 .0, r .1 .1 .1 .0, r .1 .1 .1 .1 .0)
-
--- no record looks at a header's name
-laid-unnamed : (i : Indexed) (d : List ℕ) (h : Header) (place : ℕ) (track : List ℕ) → laidKnown i d (unnamed h) place track ≡ laidKnown i d h place track
-laid-unnamed (Known f) d h place track = refl
-laid-unnamed Unknown d h place track = refl
 
 -- what following gives, without the tally
 abbrev untallied : Followed → Outcome
@@ -123,27 +118,26 @@ module _ (t : Take) (address : ℕ) (d track : List ℕ) (held : ℕ) (eh : held
     unfolding outcomeOf
     accepted-outcome o e = e ∙ rw header-is (sym (ap untallied (follow-accepted t address d track clear-tally pass)))
 
-    pub accepted-laid : (after : List ℕ) → after ≡ laidKnown (indexed (j .header .format)) d (j .header) (placeOf t (j .header)) track
+    pub accepted-laid : (after : List ℕ) → after ≡ laidKnown (indexed (j .header .format)) d (j .header .frames) (j .header .channels) (placeOf t (j .header)) track
         → after ≡ followedTrack t address d track
-    accepted-laid after ea =
-        ea
-        ∙ rw (header-is, laid-unnamed (indexed (headerOf d .format)) d (headerOf d) (placeOf t (headerOf d)) track)
-        (sym (follow-track t address d track pass))
+    accepted-laid after ea = ea ∙ rw header-is (sym (follow-track t address d track pass))
 
 -- a first packet: nothing was skipped
 module _ (t : Take) (h : Header) (b : t .begun ≡ false) where
   pub first-accepted : (k : Take) → k ≡ followedBy t h → record { answer = Accepted; place = 0; frames = h .frames; skipped = 0; take = k } ≡ acceptedBy t h
   first-accepted k e = rw (e, b)
 
-  pub first-laid : (d track after : List ℕ) → after ≡ laidKnown (indexed (h .format)) d h 0 track → after ≡ laidKnown (indexed (h .format)) d h (placeOf t h) track
-  first-laid d track after q = q ∙ ap (λ (x : ℕ). laidKnown (indexed (h .format)) d h x track) (at-zero t h b)
+  pub first-laid : (d track after : List ℕ) → after ≡ laidKnown (indexed (h .format)) d (h .frames) (h .channels) 0 track
+      → after ≡ laidKnown (indexed (h .format)) d (h .frames) (h .channels) (placeOf t h) track
+  first-laid d track after q = q ∙ ap (λ (x : ℕ). laidKnown (indexed (h .format)) d (h .frames) (h .channels) x track) (at-zero t h b)
 
 module _ (t : Take) (h : Header) (p : ℕ) (e : p ≡ placeOf t h) where
   pub next-accepted : (s : ℕ) (k : Take) → s ≡ skippedOf t h → k ≡ followedBy t h
       → record { answer = Accepted; place = p; frames = h .frames; skipped = s; take = k } ≡ acceptedBy t h
   next-accepted s k u v = rw (e, u, v)
 
-  pub next-laid : (d track after : List ℕ) → after ≡ laidKnown (indexed (h .format)) d h p track → after ≡ laidKnown (indexed (h .format)) d h (placeOf t h) track
+  pub next-laid : (d track after : List ℕ) → after ≡ laidKnown (indexed (h .format)) d (h .frames) (h .channels) p track
+      → after ≡ laidKnown (indexed (h .format)) d (h .frames) (h .channels) (placeOf t h) track
   next-laid d track after q = q ∙ rw e
 
 -- the tally is raised by the answer, and nothing else looks at it

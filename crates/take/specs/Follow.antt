@@ -127,15 +127,15 @@ outcomeOf t address d track =
     record { answer = f .answer; place = f .place; frames = f .frames; skipped = f .skipped; take = f .take }
 
 -- a packet's records, by the type's index
-abbrev pub laidKnown : Indexed → List ℕ → Header → ℕ → List ℕ → List ℕ
-laidKnown (Known f) d h place track = laidOf track place (h .frames) (packetSlot f d 28 (h .channels))
-laidKnown Unknown d h place track = track
+abbrev pub laidKnown : Indexed → List ℕ → ℕ → ℕ → ℕ → List ℕ → List ℕ
+laidKnown (Known f) d frames channels place track = laidOf track place frames (packetSlot f d 28 channels)
+laidKnown Unknown d frames channels place track = track
 
 -- acceptance writes exactly the packet's records; a refusal nothing
 unfoldable pub followedTrack : Take → ℕ → List ℕ → List ℕ → List ℕ
 followedTrack t address d track =
     choose (eqb (numberOf (answerOf t address d (recordsHeld track))) 0)
-    (laidKnown (indexed (headerOf d .format)) d (headerOf d) (placeOf t (headerOf d)) track)
+    (laidKnown (indexed (headerOf d .format)) d (headerOf d .frames) (headerOf d .channels) (placeOf t (headerOf d)) track)
     track
 
 -- ---- the rules, as the paper has them

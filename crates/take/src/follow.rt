@@ -1,12 +1,12 @@
 // Following a take, by value.
 ghost use mathlib.Core.Path.{_≡_};
 ghost use mathlib.Core.Bool.{true, false};
-ghost use Prim.Native.Nat.{_+_, _^_, _≤_, _<_};
+ghost use Prim.Native.Nat.{_+_, _*_, _^_, _≤_, _<_};
 ghost use lib.Dec.{ltb};
 ghost use lib.ListN.{length};
 ghost use Rattle.lists.specs.Tables.{first};
 ghost use Rattle.answers.specs.declared.Answer.the-variants.{Accepted};
-ghost use Rattle.samples.specs.Formats.{indexed};
+ghost use Rattle.samples.specs.Formats.{indexed, sizeAt};
 ghost use Rattle.wire.specs.Names.{goodName};
 ghost use Rattle.wire.specs.Header.{noHeader, dataSize};
 ghost use Rattle.track.specs.Records.{recordsHeld};
@@ -253,32 +253,24 @@ fn followed_by(t: Take, h: Header, place: usize) -> Take
     )
 }
 
-// A packet's records, brought to slots by its type.
-fn lay(h: Header, d: &[u8], place: usize, track: &mut [u8])
-    requires { ⌜ (h .channels ≤ 8) × (length (now d) ≡ 28 + dataSize h) × (place + h .frames ≤ recordsHeld (now track)) ⌝ }
-    ensures { λ _. ⌜ now (track .exit) ≡ laidKnown (indexed (h .format)) (now (d .entry)) h place (now (track .entry)) ⌝ }
+// A packet's records, brought to slots by its type. The header's numbers come one by one: a struct would go by way of memory.
+fn lay(format: u8, frames: u16, channels: u16, d: &[u8], place: usize, track: &mut [u8])
+    requires { ⌜ (channels ≤ 8) × (length (now d) ≡ 28 + frames * channels * sizeAt format) × (place + frames ≤ recordsHeld (now track)) ⌝ }
+    ensures { λ _. ⌜ now (track .exit) ≡ laidKnown (indexed format) (now (d .entry)) frames channels place (now (track .entry)) ⌝ }
 {
-    let Indexed::Known(f) = Format::of_index(h.format) else {
+    let Indexed::Known(f) = Format::of_index(format) else {
         return;
     };
-    track::lay(
-        f,
-        d,
-        28,
-        h.frames as usize,
-        h.channels as usize,
-        track,
-        place,
-    );
+    track::lay(f, d, 28, frames as usize, channels as usize, track, place);
 }
 
 // A first packet, which lies at place 0.
 fn begin(t: Take, h: Header, d: &[u8], track: &mut [u8]) -> Outcome
     requires { ⌜ (t .begun ≡ false) × (h .channels ≤ 8) × (length (now d) ≡ 28 + dataSize h) × (h .frames ≤ recordsHeld (now track)) ⌝ }
     ensures { λ r. ⌜ r ≡ acceptedBy t h ⌝ }
-    ensures { λ _. ⌜ now (track .exit) ≡ laidKnown (indexed (h .format)) (now (d .entry)) h (placeOf t h) (now (track .entry)) ⌝ }
+    ensures { λ _. ⌜ now (track .exit) ≡ laidKnown (indexed (h .format)) (now (d .entry)) (h .frames) (h .channels) (placeOf t h) (now (track .entry)) ⌝ }
 {
-    lay(h, d, 0, track);
+    lay(h.format, h.frames, h.channels, d, 0, track);
     Outcome {
         answer: Answer::Accepted,
         place: 0,
@@ -293,10 +285,10 @@ fn begin(t: Take, h: Header, d: &[u8], track: &mut [u8]) -> Outcome
 fn go_on(t: Take, h: Header, d: &[u8], track: &mut [u8]) -> Outcome
     requires { ⌜ (late t h ≡ false) × (placeOf t h < 2 ^ 64) × (h .channels ≤ 8) × (length (now d) ≡ 28 + dataSize h) × (placeOf t h + h .frames ≤ recordsHeld (now track)) ⌝ }
     ensures { λ r. ⌜ r ≡ acceptedBy t h ⌝ }
-    ensures { λ _. ⌜ now (track .exit) ≡ laidKnown (indexed (h .format)) (now (d .entry)) h (placeOf t h) (now (track .entry)) ⌝ }
+    ensures { λ _. ⌜ now (track .exit) ≡ laidKnown (indexed (h .format)) (now (d .entry)) (h .frames) (h .channels) (placeOf t h) (now (track .entry)) ⌝ }
 {
     let place = place_of(t, h);
-    lay(h, d, place, track);
+    lay(h.format, h.frames, h.channels, d, place, track);
     Outcome {
         answer: Answer::Accepted,
         place,

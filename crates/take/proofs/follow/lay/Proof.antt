@@ -13,8 +13,6 @@ lay-spec =
     (λ c. search needs)
     (λ c. search needs)
     (λ c. search no-format)
-    (λ c. search needs)
-    (λ c. search needs)
     (λ c κs. (search needs, search lay-data, omega arith))
     (λ c. search needs)
     (λ c. search by-format))
