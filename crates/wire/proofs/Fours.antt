@@ -27,23 +27,27 @@ lowest : (a x b y : ℕ) → a < 256 → x < 256 → a + b * 256 ≡ x + y * 256
 lowest a x b y l m e = (omega arith, omega arith)
 
 -- four bytes are equal if the numbers that they spell are
-module _ (a b c e a′ b′ c′ e′ : ℕ) (l : (a < 256) × (b < 256) × (c < 256) × (e < 256)) (l′ : (a′ < 256) × (b′ < 256) × (c′ < 256) × (e′ < 256)) (xs ys : List ℕ) where
+module _ (a b c e a′ b′ c′ e′ : ℕ) (l : (a < 256) × (b < 256) × (c < 256) × (e < 256)) (l′ : (a′ < 256) × (b′ < 256) × (c′ < 256) × (e′ < 256)) where
   abbrev w : ℕ
   w = a + b * 256 + c * 65536 + e * 16777216
 
   abbrev w′ : ℕ
   w′ = a′ + b′ * 256 + c′ * 65536 + e′ * 16777216
 
-  four-same : sameBytes (a ∷ b ∷ c ∷ e ∷ xs) (a′ ∷ b′ ∷ c′ ∷ e′ ∷ ys) ≡ choose (eqb w w′) (sameBytes xs ys) false
-  unfolding sameBytes
-  four-same =
-      by-test (λ t. choose (eqb a a′) (choose (eqb b b′) (choose (eqb c c′) (choose (eqb e e′) (sameBytes xs ys) false) false) false) false ≡ choose t (sameBytes xs ys) false) (eqb w w′)
-      (λ t.
-      let q : w ≡ w′ = eqb-true w w′ t in
+  pub four-told : w ≡ w′ → (a ≡ a′) × (b ≡ b′) × (c ≡ c′) × (e ≡ e′)
+  four-told q =
       let p₀ = lowest a a′ (b + c * 256 + e * 65536) (b′ + c′ * 256 + e′ * 65536) (l .0) (l′ .0) (omega arith) in
       let p₁ = lowest b b′ (c + e * 256) (c′ + e′ * 256) (l .1) (l′ .1) (omega (arith, p₀ .1)) in
       let p₂ = lowest c c′ e e′ (l .2) (l′ .2) (p₁ .1) in
-      rw (eq-eqb a a′ (p₀ .0), eq-eqb b b′ (p₁ .0), eq-eqb c c′ (p₂ .0), eq-eqb e e′ (p₂ .1)))
+      (p₀ .0, p₁ .0, p₂ .0, p₂ .1)
+
+  four-same : (xs ys : List ℕ) → sameBytes (a ∷ b ∷ c ∷ e ∷ xs) (a′ ∷ b′ ∷ c′ ∷ e′ ∷ ys) ≡ choose (eqb w w′) (sameBytes xs ys) false
+  unfolding sameBytes
+  four-same xs ys =
+      by-test (λ t. choose (eqb a a′) (choose (eqb b b′) (choose (eqb c c′) (choose (eqb e e′) (sameBytes xs ys) false) false) false) false ≡ choose t (sameBytes xs ys) false) (eqb w w′)
+      (λ t.
+      let p = four-told (eqb-true w w′ t) in
+      rw (eq-eqb a a′ (p .0), eq-eqb b b′ (p .1), eq-eqb c c′ (p .2), eq-eqb e e′ (p .3)))
       (λ t.
       let q : w ≡ w′ → ⊥ = eqb-false w w′ t in
       by-test (λ s. choose s (choose (eqb b b′) (choose (eqb c c′) (choose (eqb e e′) (sameBytes xs ys) false) false) false) false ≡ false) (eqb a a′)

@@ -60,7 +60,7 @@ module _ (d : List ℕ) where
         marked-bytes e 3 (lit< tt),
       )
 
-  mark-by : foreign d ≡ false → take 4 d ≡ mark
+  pub mark-by : foreign d ≡ false → take 4 d ≡ mark
   mark-by e =
       let c = none-holds (unlike (byte d 0) 0x56 ∷ unlike (byte d 1) 0x42 ∷ unlike (byte d 2) 0x41 ∷ unlike (byte d 3) 0x4E ∷ []) e in
       let b₃ : byte d 3 ≡ 0x4E = like-by _ _ (c .1 .1 .1 .0) in

@@ -23,22 +23,17 @@ pub struct HeaderAnswer {
     pub header: Header,
 }
 
+// The four bytes as one number: one comparison.
 pub(crate) fn is_foreign(d: &[u8]) -> bool
     ensures { λ r. ⌜ r ≡ foreign (now (d .entry)) ⌝ }
 {
-    if lists::at(d, 0) != 0x56 {
-        return true;
-    }
-    if lists::at(d, 1) != 0x42 {
-        return true;
-    }
-    if lists::at(d, 2) != 0x41 {
-        return true;
-    }
-    if lists::at(d, 3) != 0x4e {
-        return true;
-    }
-    false
+    crate::bits::join_counter(
+        lists::at(d, 0),
+        lists::at(d, 1),
+        lists::at(d, 2),
+        lists::at(d, 3),
+    )
+        != 0x4e414256
 }
 
 // Rows 3 and 4.
