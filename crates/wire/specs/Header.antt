@@ -49,6 +49,10 @@ fieldOf d = take 16 (drop 8 d)
 abbrev pub fourAt : List ℕ → ℕ → ℕ
 fourAt d i = byte d i + byte d (i + 1) * 256 + byte d (i + 2) * 65536 + byte d (i + 3) * 16777216
 
+-- eight bytes from index i on
+abbrev pub eightAt : List ℕ → ℕ → ℕ
+eightAt d i = fourAt d i + fourAt d (i + 4) * 4294967296
+
 -- bytes 24-27
 abbrev pub counterOf : List ℕ → ℕ
 counterOf d = fourAt d 24

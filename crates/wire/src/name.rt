@@ -1,8 +1,9 @@
 // The name rule.
 ghost use mathlib.Core.Path.{_≡_};
-ghost use Prim.Native.Nat.{_≤_};
+ghost use Prim.Native.Nat.{_+_, _≤_};
 ghost use lib.ListN.{length};
 ghost use Rattle.wire.specs.Names.{nameOf, charactersOf, goodName, keptName, sameBytes, sameName};
+ghost use Rattle.wire.specs.Header.{eightAt};
 
 // How many characters the name has: the bytes before the first zero, or all.
 fn count(n: &[u8]) -> usize
@@ -76,17 +77,25 @@ pub fn same(m: &[u8], n: &[u8]) -> bool
     lists::at(n, i) == 0
 }
 
-// Whether two fields hold the same bytes, four at a time.
+// The eight bytes from `i` on as a number, by two reads of four, which become one.
+fn eight_at(n: &[u8], i: usize) -> u64
+    requires { ⌜ i + 8 ≤ length (now n) ⌝ }
+    ensures { λ r. ⌜ r ≡ eightAt (now (n .entry)) i ⌝ }
+{
+    crate::bits::four_at(n, i) as u64 + crate::bits::four_at(n, i + 4) as u64 * 4294967296
+}
+
+// Whether two fields hold the same bytes, eight at a time.
 pub fn equal(m: &[u8], n: &[u8]) -> bool
     requires { ⌜ (length (now m) ≡ 16) × (length (now n) ≡ 16) ⌝ }
     ensures { λ r. ⌜ r ≡ sameBytes (now (m .entry)) (now (n .entry)) ⌝ }
 {
     let mut i = 0;
     while i < 16 {
-        if crate::bits::four_at(m, i) != crate::bits::four_at(n, i) {
+        if eight_at(m, i) != eight_at(n, i) {
             return false;
         }
-        i += 4;
+        i += 8;
     }
     true
 }

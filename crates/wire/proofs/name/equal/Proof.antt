@@ -9,33 +9,33 @@ use borrow.Author.Needs.{needs}
 use borrow.Author.Tests.{eq-eqb, ne-eqb}
 use Rattle.wire.specs.Names.{sameBytes}
 use Rattle.lists.specs.Lists.{byte}
-use Rattle.wire.specs.Header.{fourAt}
-use Rattle.wire.proofs.Fours.{fours}
+use Rattle.wire.specs.Header.{eightAt}
+use Rattle.wire.proofs.Fours.{eights}
 use Rattle.wire.proofs.name.equal.Statement.{statement}
 use Rattle.wire.proofs.name.equal.Tie as tie
 
 abbrev Inv : tie.InvT-loop
-Inv m n i₀ i = (i ≤ 16) × (i % 4 ≡ 0) × (sameBytes m n ≡ sameBytes (drop i m) (drop i n))
+Inv m n i₀ i = (i ≤ 16) × (i % 8 ≡ 0) × (sameBytes m n ≡ sameBytes (drop i m) (drop i n))
 
 abbrev μ : tie.MeasureT-loop
 μ m n i₀ i = 16 - i
 
-module _ (m n : List ℕ) (h : (length m ≡ 16) × (length n ≡ 16)) (i : ℕ) (l : (i ≤ 16) × (i % 4 ≡ 0) × (sameBytes m n ≡ sameBytes (drop i m) (drop i n))) where
-  room-first : i < 16 → i + 4 ≤ length m
+module _ (m n : List ℕ) (h : (length m ≡ 16) × (length n ≡ 16)) (i : ℕ) (l : (i ≤ 16) × (i % 8 ≡ 0) × (sameBytes m n ≡ sameBytes (drop i m) (drop i n))) where
+  room-first : i < 16 → i + 8 ≤ length m
   room-first g = omega (arith, h .0, l .1)
 
-  room-second : i < 16 → i + 4 ≤ length n
+  room-second : i < 16 → i + 8 ≤ length n
   room-second g = omega (arith, h .1, l .1)
 
-  less : i < 16 → 16 - (i + 4) < 16 - i
+  less : i < 16 → 16 - (i + 8) < 16 - i
   less g = omega arith
 
-  module _ (bm : (j : ℕ) → byte m j < 256) (bn : (j : ℕ) → byte n j < 256) (g : i < 16) (x y : ℕ) (p : x ≡ fourAt m i) (q : y ≡ fourAt n i) where
+  module _ (bm : (j : ℕ) → byte m j < 256) (bn : (j : ℕ) → byte n j < 256) (g : i < 16) (x y : ℕ) (p : x ≡ eightAt m i) (q : y ≡ eightAt n i) where
     differ : (x ≡ y → ⊥) → false ≡ sameBytes m n
-    differ d = rw (l .2, fours m n i (room-first g, room-second g) bm bn, ne-eqb (fourAt m i) (fourAt n i) (λ e. d (p ∙ e ∙ sym q)))
+    differ d = rw (l .2, eights m n bm bn i (room-first g, room-second g), ne-eqb (eightAt m i) (eightAt n i) (λ e. d (p ∙ e ∙ sym q)))
 
-    next : x ≡ y → (i + 4 ≤ 16) × ((i + 4) % 4 ≡ 0) × (sameBytes m n ≡ sameBytes (drop (i + 4) m) (drop (i + 4) n))
-    next e = (omega (arith, l .1), omega (arith, l .1), rw (l .2, fours m n i (room-first g, room-second g) bm bn, eq-eqb (fourAt m i) (fourAt n i) (sym p ∙ e ∙ q)))
+    next : x ≡ y → (i + 8 ≤ 16) × ((i + 8) % 8 ≡ 0) × (sameBytes m n ≡ sameBytes (drop (i + 8) m) (drop (i + 8) n))
+    next e = (omega (arith, l .1), omega (arith, l .1), rw (l .2, eights m n bm bn i (room-first g, room-second g), eq-eqb (eightAt m i) (eightAt n i) (sym p ∙ e ∙ q)))
 
   end : 16 ≤ i → true ≡ sameBytes m n
   unfolding sameBytes
