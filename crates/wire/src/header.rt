@@ -54,6 +54,10 @@ fn mark_refusal(d: &[u8]) -> Answer
 fn bit_refusal(four: u8, seven: u8) -> Answer
     ensures { λ r. ⌜ r ≡ first Accepted (bitRows four seven) ⌝ }
 {
+    // Bytes that hold a rate and a type alone: no row refuses them.
+    if four <= 20 && seven <= 3 {
+        return Answer::Accepted;
+    }
     if crate::bits::sub_protocol(four) != 0 {
         return Answer::SubProtocol;
     }

@@ -1,11 +1,15 @@
--- Each test is a row of the table.
+-- Each test after the first is a row of the table.
 use mathlib.Core.Path.{_≡_}
 use mathlib.Core.Bool.{Bool, not}
-use Prim.Native.Nat.{ℕ}
+use Prim.Native.Nat.{ℕ, _≤_}
+use native.Mathlib.Omega.{arith}
 use borrow.Author.Needs.{needs}
+use borrow.Author.Tests.{le-ltb, le-leb, leb-true}
+use Rattle.lists.specs.Tables.{first}
 use Rattle.lists.proofs.Branches.{flag-yes, flag-no, more-of-yes, more-of-no, unlike-of-yes, unlike-of-no}
+use Rattle.answers.specs.declared.Answer.the-variants.{Accepted}
 use Rattle.samples.specs.Formats.{mayRead}
-use Rattle.wire.specs.Header.{formatBits}
+use Rattle.wire.specs.Header.{rateBits, subBits, formatBits, reservedBit, codecBits, bitRows}
 use Rattle.wire.proofs.header.bit_refusal.Statement.{statement}
 use Rattle.wire.proofs.header.bit_refusal.Tie as tie
 
@@ -13,12 +17,21 @@ use Rattle.wire.proofs.header.bit_refusal.Tie as tie
 known : (b f : ℕ) (r : Bool) → r ≡ mayRead f → f ≡ formatBits b → not r ≡ not (mayRead (formatBits b))
 known b f r e p = rw (e, p)
 
+-- where no other bit is set, a rate and a type pass every row
+plain : (four seven : ℕ) → four ≤ 20 → seven ≤ 3 → Accepted ≡ first Accepted (bitRows four seven)
+plain four seven r t =
+    let sub : subBits four ≡ 0 = omega arith in
+    let codec : codecBits seven ≡ 0 = omega arith in
+    let reserved : reservedBit seven ≡ 0 = omega arith in
+    rw (sub, codec, reserved, le-ltb 20 (rateBits four) (omega arith), le-leb (formatBits seven) 3 (omega arith))
+
 ruleset rows = (known, flag-yes, flag-no, more-of-yes, more-of-no, unlike-of-yes, unlike-of-no)
 
 pub bit-refusal-spec : {M : Type 1} → statement M
 bit-refusal-spec =
     tie.close
     (tie.spec
+    (λ c. search (plain, leb-true))
     (λ c κs. search needs)
     (λ c. search rows depth 8 fits 6000)
     (λ c κs. search needs)
