@@ -18,10 +18,10 @@ use Rattle.wire.proofs.Reading.{run-is}
 -- ---- a digit and what stands above it, in any base
 
 module _ (base a b : ℕ) (l : a < base) where
-  low : (a + b * base) % base ≡ a
+  pub low : (a + b * base) % base ≡ a
   low = add-mul-mod-self-right a b base ∙ mod-eq-of-lt l
 
-  high : (a + b * base) / base ≡ b
+  pub high : (a + b * base) / base ≡ b
   high = add-mul-div-right a b (omega arith) ∙ rw (div-eq-of-lt l) (zero-add b)
 
 module _ (base a b a′ b′ : ℕ) (l : a < base) (l′ : a′ < base) where
@@ -78,12 +78,15 @@ module _ (a b c e a′ b′ c′ e′ : ℕ) (l : (a < 256) × (b < 256) × (c <
       )
 
 -- the bytes, the lowest first, and what follows them
-front : (d : List ℕ) (i : ℕ) → i + 4 ≤ length d → drop i d ≡ byte d i ∷ byte d (i + 1) ∷ byte d (i + 2) ∷ byte d (i + 3) ∷ drop (i + 4) d
+pub front : (d : List ℕ) (i : ℕ) → i + 4 ≤ length d → drop i d ≡ byte d i ∷ byte d (i + 1) ∷ byte d (i + 2) ∷ byte d (i + 3) ∷ drop (i + 4) d
 front d i h =
     let e₁ : i + 1 ≡ suc i = omega arith in
     let e₂ : i + 2 ≡ suc (suc i) = omega arith in
     let e₃ : i + 3 ≡ suc (suc (suc i)) = omega arith in
     rw (e₁, e₂, e₃) (run-is d i 4 h)
+
+pub four-below : (d : List ℕ) → ((j : ℕ) → byte d j < 256) → (i : ℕ) → fourAt d i < 4294967296
+four-below d below i = omega (arith, below i, below (i + 1), below (i + 2), below (i + 3))
 
 module _ (m n : List ℕ) (bm : (j : ℕ) → byte m j < 256) (bn : (j : ℕ) → byte n j < 256) where
   fours : (i : ℕ) → (i + 4 ≤ length m) × (i + 4 ≤ length n)
@@ -98,7 +101,5 @@ module _ (m n : List ℕ) (bm : (j : ℕ) → byte m j < 256) (bn : (j : ℕ) �
       → sameBytes (drop i m) (drop i n) ≡ choose (eqb (eightAt m i) (eightAt n i)) (sameBytes (drop (i + 8) m) (drop (i + 8) n)) false
   eights i h =
       let s : i + 4 + 4 ≡ i + 8 = omega arith in
-      let lm : fourAt m i < 4294967296 = omega (arith, bm i, bm (i + 1), bm (i + 2), bm (i + 3)) in
-      let ln : fourAt n i < 4294967296 = omega (arith, bn i, bn (i + 1), bn (i + 2), bn (i + 3)) in
       fours i (omega arith, omega arith)
-      ∙ rw (fours (i + 4) (omega arith, omega arith), s) (pair-same 4294967296 (fourAt m i) (fourAt m (i + 4)) (fourAt n i) (fourAt n (i + 4)) lm ln (sameBytes (drop (i + 8) m) (drop (i + 8) n)))
+      ∙ rw (fours (i + 4) (omega arith, omega arith), s) (pair-same 4294967296 (fourAt m i) (fourAt m (i + 4)) (fourAt n i) (fourAt n (i + 4)) (four-below m bm i) (four-below n bn i) (sameBytes (drop (i + 8) m) (drop (i + 8) n)))

@@ -4,5 +4,6 @@ pub mod Pieces
 pub mod Rows
 pub mod Reading
 pub mod Fours
+pub mod Spelled
 pub mod Writing
 pub mod RoundTrip

@@ -1,9 +1,11 @@
 // The name rule.
 ghost use mathlib.Core.Path.{_≡_};
-ghost use Prim.Native.Nat.{_+_, _≤_};
+ghost use mathlib.Core.List.{_++_};
+ghost use Prim.Native.Nat.{_+_, _-_, _*_, _/_, _%_, _^_, _≤_};
 ghost use lib.ListN.{length};
 ghost use Rattle.wire.specs.Names.{nameOf, charactersOf, goodName, keptName, sameBytes, sameName};
 ghost use Rattle.wire.specs.Header.{eightAt};
+ghost use Rattle.wire.specs.Write.{four};
 
 // How many characters the name has: the bytes before the first zero, or all.
 fn count(n: &[u8]) -> usize
@@ -40,15 +42,57 @@ pub fn good(n: &[u8]) -> bool
     lists::at(n, k) == 0
 }
 
-// The name with zeros after it, into the bytes that are lent: zeros first, and then the characters, so that nothing is read back.
+// The eight bytes from `i` on as a number, by two reads of four, which become one.
+fn eight_at(n: &[u8], i: usize) -> u64
+    requires { ⌜ i + 8 ≤ length (now n) ⌝ }
+    ensures { λ r. ⌜ r ≡ eightAt (now (n .entry)) i ⌝ }
+{
+    crate::bits::four_at(n, i) as u64 + crate::bits::four_at(n, i + 4) as u64 * 4294967296
+}
+
+// The lowest `k` bytes of eight.
+fn lowest(w: u64, k: usize) -> u64
+    ensures { λ r. ⌜ r ≡ w % 2 ^ (8 * k) ⌝ }
+{
+    if k < 8 {
+        let shift = (8 * k) as u32;
+        return w % (1u64 << shift);
+    }
+    w
+}
+
+// How many of `k` bytes stand past the first eight.
+fn past_eight(k: usize) -> usize
+    ensures { λ r. ⌜ r ≡ k - 8 ⌝ }
+{
+    if k < 8 {
+        return 0;
+    }
+    k - 8
+}
+
+// A number's eight bytes, the lowest first.
+fn put_eight(w: u64, out: &mut [u8])
+    requires { ⌜ length (now out) ≡ 8 ⌝ }
+    ensures { λ _. ⌜ now (out .exit) ≡ four (w % 4294967296) ++ four (w / 4294967296) ⌝ }
+{
+    let low = crate::bits::split_counter((w % 4294967296) as u32);
+    let high = crate::bits::split_counter((w / 4294967296) as u32);
+    crate::write::place(&low, out, 0);
+    crate::write::place(&high, out, 4);
+}
+
+// The name with zeros after it, into the bytes that are lent, as two words: a copy of so many bytes would cost a loop. Both are
+// read before one is stored, since nothing tells the compiler that the slices are apart.
 pub(crate) fn keep(n: &[u8], out: &mut [u8])
     requires { ⌜ (length (now n) ≡ 16) × (length (now out) ≡ 16) ⌝ }
     ensures { λ _. ⌜ now (out .exit) ≡ keptName (now (n .entry)) ⌝ }
 {
     let k = count(n);
-    let zeros = [0u8; 16];
-    bytes::copy(&zeros, out);
-    bytes::copy(&n[..k], out);
+    let first = lowest(eight_at(n, 0), k);
+    let second = lowest(eight_at(n, 8), past_eight(k));
+    put_eight(first, &mut out[0..8]);
+    put_eight(second, &mut out[8..16]);
 }
 
 pub fn kept(n: &[u8]) -> [u8; 16]
@@ -75,14 +119,6 @@ pub fn same(m: &[u8], n: &[u8]) -> bool
         i += 1;
     }
     lists::at(n, i) == 0
-}
-
-// The eight bytes from `i` on as a number, by two reads of four, which become one.
-fn eight_at(n: &[u8], i: usize) -> u64
-    requires { ⌜ i + 8 ≤ length (now n) ⌝ }
-    ensures { λ r. ⌜ r ≡ eightAt (now (n .entry)) i ⌝ }
-{
-    crate::bits::four_at(n, i) as u64 + crate::bits::four_at(n, i + 4) as u64 * 4294967296
 }
 
 // Whether two fields hold the same bytes, eight at a time.

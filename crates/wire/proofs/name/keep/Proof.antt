@@ -1,53 +1,54 @@
--- The characters are copied over sixteen zeros.
+-- Two words, each stored in its half.
 use mathlib.Core.Path.{_≡_, sym, ap, _∙_}
 use mathlib.Core.List.{List, _++_}
-use Prim.Native.Nat.{ℕ, _+_, _-_, _≤_}
+use Prim.Native.Nat.{ℕ, _-_, _*_, _%_, _^_, _<_}
 use native.Mathlib.Omega.{arith}
-use lib.ListN.{length, take, drop, replicate, length-replicate, replicate-append-replicate}
-use lib.Seq.{take-length, length-take-le, drop-at}
+use lib.ListN.{length, take, drop, length-append}
 use borrow.Author.Needs.{needs}
-use Rattle.lists.proofs.Lists.{copied-whole}
+use borrow.Rule.Slice.PartMut.{putMid}
+use Rattle.lists.specs.Lists.{byte, put}
+use Rattle.lists.proofs.Lists.{put-whole, lent}
 use Rattle.wire.specs.Names.{nameOf, keptName}
-use Rattle.wire.proofs.Names.{name-taken}
+use Rattle.wire.specs.Header.{eightAt}
+use Rattle.wire.proofs.Pieces.{put-next}
+use Rattle.wire.proofs.Spelled.{stored, padded, stored-lowest, kept-words}
 use Rattle.wire.proofs.name.keep.Statement.{statement}
 use Rattle.wire.proofs.name.keep.Tie as tie
 
-zeros-left : (m k : ℕ) → k ≤ m → drop {A = ℕ} k (replicate m 0) ≡ replicate (m - k) 0
-zeros-left m k h =
-    let e : m ≡ k + (m - k) = omega arith in
-    ap (λ (j : ℕ). drop {A = ℕ} k (replicate j 0)) e
-    ∙ rw (← replicate-append-replicate {A = ℕ} k (m - k) 0) (drop-at (replicate k 0) _ k (length-replicate k 0))
-
--- the bytes that are lent, once the zeros are there
-zeroed : (out o : List ℕ) → length out ≡ 16 → o ≡ take (length (replicate {A = ℕ} 16 0)) (replicate 16 0) ++ drop (length (replicate {A = ℕ} 16 0)) out → o ≡ replicate 16 0
-zeroed out o h e = e ∙ copied-whole out (replicate 16 0) (sym h)
-
-module _ (n out : List ℕ) (k : ℕ) (short : k ≤ length n) (sixteen : (length n ≡ 16) × (length out ≡ 16)) where
-  fits : length (take k n) ≤ 16
-  fits = omega (arith, sixteen .0, length-take-le k n short)
-
-  again : (o : List ℕ) → o ≡ replicate 16 0 → length (take k n) ≤ length o
-  again o z = rw z fits
-
-  copied : (o e : List ℕ) → k ≡ length (nameOf n) → o ≡ replicate 16 0 → e ≡ take (length (take k n)) (take k n) ++ drop (length (take k n)) o → e ≡ keptName n
-  unfolding keptName
-  copied o e p z q = q ∙ rw (z, take-length, zeros-left 16 (length (take k n)) fits, name-taken n k p)
+module _ (n out : List ℕ) (sixteen : (length n ≡ 16) × (length out ≡ 16)) (below : (i : ℕ) → byte n i < 256) where
+  words : (k j a b w v : ℕ) (ys zs : List ℕ) → k ≡ length (nameOf n) → a ≡ eightAt n 0 → w ≡ a % 2 ^ (8 * k) → b ≡ eightAt n 8 → j ≡ k - 8 → v ≡ b % 2 ^ (8 * j)
+      → ys ≡ stored w → zs ≡ stored v → putMid 8 8 (putMid 0 8 out ys) zs ≡ keptName n
+  words k j a b w v ys zs p ea ew eb ej ev py pz =
+      let y : ys ≡ padded k (take 8 n) = py ∙ stored-lowest n below 0 k (omega arith) w (rw (ew, ea)) in
+      let z : zs ≡ padded (k - 8) (take 8 (drop 8 n)) = pz ∙ stored-lowest n below 8 (k - 8) (omega arith) v (rw (ev, eb, ej)) in
+      let ly : length ys ≡ 8 = ap length py in
+      let lz : length zs ≡ 8 = ap length pz in
+      let l : length out ≡ length (ys ++ zs) = sixteen .1 ∙ sym (length-append ys zs ∙ rw (ly, lz)) in
+      lent (putMid 0 8 out ys) zs 8 8 lz
+      ∙ ap (λ (x : List ℕ). put x 8 zs) (lent out ys 0 8 ly)
+      ∙ put-next out ys zs 8 ly
+      ∙ put-whole out (ys ++ zs) l
+      ∙ rw (y, z) (kept-words n k (sixteen .0) p)
 
 pub keep-spec : {M : Type 1} → statement M
 keep-spec =
     tie.close
     (tie.spec
     (λ c κs. search needs)
+    (λ c κs. search needs)
+    (λ c κs. search needs)
+    (λ c κs. search needs)
+    (λ c κs. search needs)
+    (λ c κs. search needs)
+    (λ c. search needs)
+    (λ c. search needs)
     (λ c. search needs)
     (λ c κs. search needs)
-    (λ c. sym (length-take-le _ _ (c .before .before .before .before .before .before .count .ensures .1)))
-    (λ c κs.
-    let p = c .before .before .before .before in
-    let o = p .before .before .before .before .before .before in
-    again (o .args .n .now) (o .args .out .now) _ (p .before .before .before .count .ensures .1) (o .pre) _ (zeroed (o .args .out .now) _ (o .pre .1) (p .copy .ensures .1)))
+    (λ c. search needs)
+    (λ c. search needs)
+    (λ c. search needs)
+    (λ c κs. search needs)
     (λ c. search needs)
     (λ c.
-    let p = c .before .before .before .before .before .before .before in
-    let o = p .before .before .before .before .before .before in
-    let k = p .before .before .before .count .ensures in
-    copied (o .args .n .now) (o .args .out .now) _ (k .1) (o .pre) _ _ (k .0) (zeroed (o .args .out .now) _ (o .pre .1) (p .copy .ensures .1)) (c .before .before .copy2 .ensures .1)))
+    let o = c .before .before .before .before .before .before .before .before .before .before .before .before .before .before .before in
+    search (words (o .before .args .n .now) (o .before .args .out .now) (o .before .pre) (λ j. o .shared-slice-known .given j .fits))))
