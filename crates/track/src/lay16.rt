@@ -58,6 +58,24 @@ fn some(d: &[u8], from: usize, frames: usize, channels: usize, track: &mut [u8],
     }
 }
 
+// Eight channels: a loop of its own, by a step that is known.
+fn full(d: &[u8], from: usize, frames: usize, track: &mut [u8], place: usize)
+    requires { ⌜ (from + frames * (8 * 2) ≤ length (now d)) × (place * 24 + frames * 24 ≤ length (now track)) ⌝ }
+    ensures { λ _. ⌜ now (track .exit) ≡ laidOf (now (track .entry)) place frames (packetSlot Signed16 (now (d .entry)) from 8) ⌝ }
+{
+    let step = 8 * SIZE;
+    let mut k = 0;
+    let mut at = from;
+    let mut a = place * 24;
+    while k < frames {
+        let e = a + 24;
+        frame(d, at, 8, &mut track[a..e]);
+        at += step;
+        a = e;
+        k += 1;
+    }
+}
+
 pub fn lay(d: &[u8], from: usize, frames: usize, channels: usize, track: &mut [u8], place: usize)
     requires { ⌜ (channels ≤ 8) × (from + frames * (channels * 2) ≤ length (now d)) × (place * 24 + frames * 24 ≤ length (now track)) ⌝ }
     ensures { λ _. ⌜ now (track .exit) ≡ laidOf (now (track .entry)) place frames (packetSlot Signed16 (now (d .entry)) from channels) ⌝ }
@@ -67,7 +85,7 @@ pub fn lay(d: &[u8], from: usize, frames: usize, channels: usize, track: &mut [u
         return;
     }
     if channels == 8 {
-        some(d, from, frames, 8, track, place);
+        full(d, from, frames, track, place);
         return;
     }
     if channels == 1 {

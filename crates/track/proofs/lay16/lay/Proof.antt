@@ -11,7 +11,7 @@ lay-spec =
     (λ c κs. (search needs, search room-for, search needs))
     (λ c. search needs)
     (λ c. search for-count)
-    (λ c κs. (search needs, search room-for, search needs))
+    (λ c κs. (search room-for, search needs))
     (λ c. search needs)
     (λ c. search for-count)
     (λ c κs. (search needs, search room-for, search needs))

@@ -1,0 +1,41 @@
+-- A record a turn, each in the part of the track that it is lent.
+use Prim.Native.Nat.{_+_, _*_, _-_, _≤_}
+use native.Mathlib.Omega.{arith}
+use lib.ListN.{length}
+use borrow.Author.Needs.{needs}
+use Rattle.samples.specs.declared.Format.the-variants.{Signed16}
+use Rattle.track.proofs.Laying.{Laying, start, room, next, end}
+use Rattle.track.proofs.lay16.full.Statement.{statement}
+use Rattle.track.proofs.lay16.full.Tie as tie
+
+abbrev Inv : tie.InvT-loop
+Inv d from frames track₀ place step k₀ at₀ a₀ track k at a = Laying Signed16 d from frames 8 track₀ place track k at a
+
+abbrev μ : tie.MeasureT-loop
+μ d from frames track₀ place step k₀ at₀ a₀ track k at a = frames - k
+
+has : (c : tie.In-loop Inv μ) →
+    let a = c .before .before .before .before .args in
+    c .before .loop .at + 8 * 2 ≤ length (a .d .now)
+has c = search (room Signed16)
+
+pub full-spec : {M : Type 1} → statement M
+full-spec =
+    tie.close
+    (tie.spec
+    Inv
+    μ
+    (λ c. search needs)
+    (λ c. search needs)
+    (λ c. search start)
+    (λ c. search needs)
+    (λ c. search needs)
+    (λ c. search needs)
+    (λ c. search needs)
+    (λ c κs. (search needs, omega (arith, has (c .before)), omega (arith, c .frame-arg .given .2)))
+    (λ c. omega (arith, has (c .before .before .before .before)))
+    (λ c. search needs)
+    (λ c. search needs)
+    (λ c. search (next Signed16))
+    (λ c. search needs)
+    (λ c. search end))
