@@ -8,7 +8,7 @@ mod timing;
 
 use inputs::Shape;
 use sides::{Proved, Rival, DESK};
-use timing::{accepted, cleared, copied, cut, medians, refused, Lent, Sweep};
+use timing::{accepted, cleared, copied, cut, refused, undisturbed, Lent, Sweep};
 
 const BITS: [&str; 4] = ["8 bits", "16 bits", "24 bits", "32 bits"];
 
@@ -19,7 +19,7 @@ fn title(what: &str) {
 
 /// A row; a refusal has no least and no frames.
 fn row(what: &str, frames: u16, datagram: Vec<u8>, sweeps: Vec<Sweep>) {
-    let times = medians(sweeps, Lent::new(datagram));
+    let times = undisturbed(sweeps, Lent::new(datagram));
     let shown = |side: usize, per: u16, digits: usize| match times.get(side) {
         Some(time) if per > 0 => format!("{:.digits$}", time / f64::from(per)),
         _ => String::new(),
@@ -58,7 +58,7 @@ fn refusals() {
 
 fn main() {
     agree::all();
-    println!("Both sides give the same answers, tracks, packets and counts. Medians of rounds in turn.");
+    println!("Both sides give the same answers, tracks, packets and counts. Of 401 rounds in turn, one in twenty is faster than the time shown.");
     title("Following, accepted");
     for (shape, what) in shapes() {
         let sweeps = vec![accepted::<Proved>(shape), accepted::<Rival>(shape), cleared(shape)];

@@ -6,8 +6,8 @@ use std::time::Instant;
 use crate::inputs::{bytes, Shape, RECORD, RECORDS};
 use crate::sides::{Side, DESK};
 
-const ROUNDS: usize = 41;
-const NANOSECONDS: f64 = 1_000_000.0;
+const ROUNDS: usize = 401;
+const NANOSECONDS: f64 = 250_000.0;
 
 /// What every side is lent: the same bytes at the same places.
 pub struct Lent {
@@ -33,7 +33,7 @@ fn clock(sweep: &mut Sweep, sweeps: usize, lent: &mut Lent) -> f64 {
     began.elapsed().as_nanos() as f64 / calls as f64
 }
 
-/// How many sweeps last about a millisecond.
+/// How many sweeps last a round.
 fn sweeps_of(sweep: &mut Sweep, lent: &mut Lent) -> usize {
     let mut sweeps = 1;
     loop {
@@ -47,8 +47,9 @@ fn sweeps_of(sweep: &mut Sweep, lent: &mut Lent) -> usize {
     }
 }
 
-/// Medians, in nanoseconds a call, of rounds in which all take turns.
-pub fn medians(mut sweeps: Vec<Sweep>, mut lent: Lent) -> Vec<f64> {
+/// Nanoseconds a call, of short rounds in which all take turns: a time that one round in twenty stays under, since what else the
+/// machine does can only add to a round.
+pub fn undisturbed(mut sweeps: Vec<Sweep>, mut lent: Lent) -> Vec<f64> {
     let counts: Vec<usize> = sweeps.iter_mut().map(|sweep| sweeps_of(sweep, &mut lent)).collect();
     let mut times = vec![Vec::new(); sweeps.len()];
     for _ in 0..ROUNDS {
@@ -57,7 +58,7 @@ pub fn medians(mut sweeps: Vec<Sweep>, mut lent: Lent) -> Vec<f64> {
         }
     }
     times.iter_mut().for_each(|times| times.sort_by(f64::total_cmp));
-    times.iter().map(|times| times[ROUNDS / 2]).collect()
+    times.iter().map(|times| times[ROUNDS / 20]).collect()
 }
 
 /// Follows a track full of accepted packets from a fresh take, again and again.
