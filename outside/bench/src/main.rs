@@ -8,18 +8,32 @@ mod timing;
 
 use inputs::Shape;
 use sides::{Proved, Rival, DESK};
-use timing::{accepted, cleared, copied, cut, refused, undisturbed, Lent, Sweep};
+use timing::{accepted, cleared, copied, cut, refused, Lent, Race, Sweep};
 
 const BITS: [&str; 4] = ["8 bits", "16 bits", "24 bits", "32 bits"];
+/// Every row is timed so often, with all others in between: a machine is disturbed for seconds at a time.
+const PASSES: usize = 20;
+
+/// A refusal has no least and no frames.
+struct Row {
+    what: String,
+    frames: u16,
+    race: Race,
+}
+
+impl Row {
+    fn new(what: String, frames: u16, datagram: Vec<u8>, sweeps: Vec<Sweep>) -> Self {
+        Row { what, frames, race: Race::new(sweeps, Lent::new(datagram)) }
+    }
+}
 
 fn title(what: &str) {
     println!("\n{what:31}|       ns a call        |      ns a frame      |   proved to");
     println!("{:31}|  proved   rival  least | proved  rival  least | rival  least", "");
 }
 
-/// A row; a refusal has no least and no frames.
-fn row(what: &str, frames: u16, datagram: Vec<u8>, sweeps: Vec<Sweep>) {
-    let times = undisturbed(sweeps, Lent::new(datagram));
+fn show(Row { what, frames, race }: Row) {
+    let times = race.times();
     let shown = |side: usize, per: u16, digits: usize| match times.get(side) {
         Some(time) if per > 0 => format!("{:.digits$}", time / f64::from(per)),
         _ => String::new(),
@@ -43,34 +57,53 @@ fn shapes() -> impl Iterator<Item = (Shape, String)> {
     })
 }
 
-fn refusals() {
+fn following() -> Vec<Row> {
+    let row = |(shape, what): (Shape, String)| {
+        let sweeps = vec![accepted::<Proved>(shape), accepted::<Rival>(shape), cleared(shape)];
+        Row::new(what, shape.frames, shape.datagram(), sweeps)
+    };
+    shapes().map(row).collect()
+}
+
+fn cutting() -> Vec<Row> {
+    let row = |(shape, what): (Shape, String)| {
+        let sweeps = vec![cut::<Proved>(shape), cut::<Rival>(shape), copied(shape)];
+        Row::new(what, shape.frames, shape.datagram(), sweeps)
+    };
+    shapes().map(row).collect()
+}
+
+fn refusals() -> Vec<Row> {
     let whole = Shape::largest(1, 2).datagram();
     let (short, less) = (whole[..27].to_vec(), whole[..whole.len() - 1].to_vec());
-    let rows = [
+    let kinds = [
         ("5, a neighbour's datagram", DESK + 1, whole, 5),
         ("1, a short one", DESK, short, 1),
         ("11, a wrong length", DESK, less, 11),
     ];
-    for (what, address, datagram, due) in rows {
-        row(what, 0, datagram, vec![refused::<Proved>(address, due), refused::<Rival>(address, due)]);
-    }
+    let row = |(what, address, datagram, due): (&str, u32, Vec<u8>, u8)| {
+        Row::new(
+            what.into(),
+            0,
+            datagram,
+            vec![refused::<Proved>(address, due), refused::<Rival>(address, due)],
+        )
+    };
+    kinds.map(row).into()
 }
 
 fn main() {
     agree::all();
-    println!("Both sides give the same answers, tracks, packets and counts. Of 401 rounds in turn, one in twenty is faster than the time shown.");
-    title("Following, accepted");
-    for (shape, what) in shapes() {
-        let sweeps = vec![accepted::<Proved>(shape), accepted::<Rival>(shape), cleared(shape)];
-        row(&what, shape.frames, shape.datagram(), sweeps);
+    println!("Both sides give the same answers, tracks, packets and counts. One round in twenty is faster than the time shown.");
+    let mut tables =
+        [("Following, accepted", following()), ("Cutting", cutting()), ("Following, refused", refusals())];
+    for _ in 0..PASSES {
+        tables.iter_mut().flat_map(|(_, rows)| rows).for_each(|row| row.race.run());
     }
-    title("Cutting");
-    for (shape, what) in shapes() {
-        let sweeps = vec![cut::<Proved>(shape), cut::<Rival>(shape), copied(shape)];
-        row(&what, shape.frames, shape.datagram(), sweeps);
+    for (what, rows) in tables {
+        title(what);
+        rows.into_iter().for_each(show);
     }
-    title("Following, refused");
-    refusals();
     println!("\nrival: an independent implementation in Rust, optimised and compiled for any processor of this kind, as the proved one is.");
     println!("least: as many bytes as are written cleared (following) or copied (cutting).");
 }

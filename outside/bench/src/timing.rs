@@ -6,8 +6,8 @@ use std::time::Instant;
 use crate::inputs::{bytes, Shape, RECORD, RECORDS};
 use crate::sides::{Side, DESK};
 
-const ROUNDS: usize = 401;
-const NANOSECONDS: f64 = 250_000.0;
+const ROUNDS: usize = 40;
+const NANOSECONDS: f64 = 200_000.0;
 
 /// What every side is lent: the same bytes at the same places.
 pub struct Lent {
@@ -47,18 +47,34 @@ fn sweeps_of(sweep: &mut Sweep, lent: &mut Lent) -> usize {
     }
 }
 
-/// Nanoseconds a call, of short rounds in which all take turns: a time that one round in twenty stays under, since what else the
-/// machine does can only add to a round.
-pub fn undisturbed(mut sweeps: Vec<Sweep>, mut lent: Lent) -> Vec<f64> {
-    let counts: Vec<usize> = sweeps.iter_mut().map(|sweep| sweeps_of(sweep, &mut lent)).collect();
-    let mut times = vec![Vec::new(); sweeps.len()];
-    for _ in 0..ROUNDS {
-        for ((sweep, &count), times) in sweeps.iter_mut().zip(&counts).zip(&mut times) {
-            times.push(clock(sweep, count, &mut lent));
+/// Things that are timed beside each other.
+pub struct Race {
+    sweeps: Vec<Sweep>,
+    counts: Vec<usize>,
+    times: Vec<Vec<f64>>,
+    lent: Lent,
+}
+
+impl Race {
+    pub fn new(mut sweeps: Vec<Sweep>, mut lent: Lent) -> Self {
+        let counts = sweeps.iter_mut().map(|sweep| sweeps_of(sweep, &mut lent)).collect();
+        Race { times: vec![Vec::new(); sweeps.len()], sweeps, counts, lent }
+    }
+
+    /// Some rounds in which all take turns.
+    pub fn run(&mut self) {
+        for _ in 0..ROUNDS {
+            for ((sweep, &count), times) in self.sweeps.iter_mut().zip(&self.counts).zip(&mut self.times) {
+                times.push(clock(sweep, count, &mut self.lent));
+            }
         }
     }
-    times.iter_mut().for_each(|times| times.sort_by(f64::total_cmp));
-    times.iter().map(|times| times[ROUNDS / 20]).collect()
+
+    /// Nanoseconds a call: a time that one round in twenty stays under, as what else the machine does can only add to a round.
+    pub fn times(mut self) -> Vec<f64> {
+        self.times.iter_mut().for_each(|times| times.sort_by(f64::total_cmp));
+        self.times.iter().map(|times| times[times.len() / 20]).collect()
+    }
 }
 
 /// Follows a track full of accepted packets from a fresh take, again and again.
