@@ -95,11 +95,10 @@ fn lay24(channels: u16, data: &[u8], records: &mut [u8]) {
     }
 }
 
-/// The nearest 24 bits, the even ones at a tie; the sum stops at the top and does not wrap.
+/// The nearest 24 bits, the even ones at a tie.
 #[inline(always)]
 fn from32(bytes: &[u8]) -> u32 {
-    let number = i32::from_le_bytes(bytes.try_into().expect("a sample's bytes"));
-    number.saturating_add(127 + (number >> 8 & 1)) as u32 >> 8
+    super::near(i32::from_le_bytes(bytes.try_into().expect("a sample's bytes")), 8) as u32 >> 8
 }
 
 /// A block of samples narrowed, and then its frames laid.

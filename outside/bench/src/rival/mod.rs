@@ -9,3 +9,12 @@ mod out;
 
 pub use cut::cut;
 pub use follow::{follow, open, Take, Tally};
+
+/// A number of which the low bits can be dropped to have the nearest, the even one at a tie. Past the last that is not rounded past the
+/// top nothing is added: the whole part is odd there, and so -1 and 1 are.
+#[inline(always)]
+fn near(number: i32, bits: u32) -> i32 {
+    let half = 1_i32 << (bits - 1);
+    let step = if number > i32::MAX - half { -1 } else { half - 1 };
+    number.wrapping_add(step + (number >> bits & 1))
+}

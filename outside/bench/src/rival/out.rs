@@ -1,5 +1,7 @@
 //! Taking frames out of a track: a record is three words, and a slot a part of one or two.
 
+use super::near;
+
 /// The slots of a record, each in the top 24 bits of a number, from its three words.
 #[inline(always)]
 fn from_words(record: &[u8]) -> [i32; 8] {
@@ -35,15 +37,15 @@ fn frames<const SIZE: usize, const CHANNELS: usize>(
     }
 }
 
-/// The nearest 8 bits, the even ones at a tie; the sum stops at the top and does not wrap.
+/// The nearest 8 bits, the even ones at a tie.
 #[inline(always)]
 fn to8(slot: i32) -> [u8; 1] {
-    [((slot.saturating_add(0x7F_FFFF + (slot >> 24 & 1)) >> 24) as u8) ^ 0x80]
+    [((near(slot, 24) >> 24) as u8) ^ 0x80]
 }
 
 #[inline(always)]
 fn to16(slot: i32) -> [u8; 2] {
-    ((slot.saturating_add(0x7FFF + (slot >> 16 & 1)) >> 16) as i16).to_le_bytes()
+    ((near(slot, 16) >> 16) as i16).to_le_bytes()
 }
 
 #[inline(always)]
