@@ -188,22 +188,21 @@ name-before [] z e = rw name-nil e
 name-before (zero ∷ xs) z e = rw (name-stop xs) e
 name-before (suc x ∷ xs) z e = rw (name-go x xs, name-go x (nameOf xs ++ z), name-before xs z e)
 
-kept-is : (n : List ℕ) → keptName n ≡ nameOf n ++ replicate (16 - length (nameOf n)) 0
-unfolding keptName
-kept-is n = refl
-
 pub kept-name : (n : List ℕ) → nameOf (keptName n) ≡ nameOf n
-kept-name n = rw (kept-is n) (name-before n _ (zeros-name (16 - length (nameOf n))))
+unfolding keptName
+kept-name n = name-before n _ (zeros-name (16 - length (nameOf n)))
 
 pub kept-again : (n : List ℕ) → keptName (keptName n) ≡ keptName n
-kept-again n = kept-is (keptName n) ∙ rw (kept-name n) (sym (kept-is n))
+unfolding keptName
+kept-again n = ap (λ (m : List ℕ). m ++ replicate (16 - length m) 0) (kept-name n)
 
 pub kept-good : (n : List ℕ) → goodName (keptName n) ≡ goodName n
 unfolding goodName
 kept-good n = rw (kept-name n)
 
 pub kept-length : (n : List ℕ) → length n ≤ 16 → length (keptName n) ≡ 16
-kept-length n h = rw (kept-is n) (simp (length-append, length-replicate) (omega (arith, name-short n)))
+unfolding keptName
+kept-length n h = simp (length-append, length-replicate) (omega (arith, name-short n))
 
 pub kept-good-name : (n : List ℕ) → length n ≤ 16 → GoodName n → GoodName (keptName n)
 kept-good-name n h g = good-exactly (keptName n) (le-of-eq (kept-length n h)) .0 (kept-good n ∙ good-exactly n h .1 g)

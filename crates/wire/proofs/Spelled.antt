@@ -9,6 +9,7 @@ use lib.ListN.{length, take, drop, replicate, length-append, length-take, length
 use lib.Seq.{take-nil, take-all, length-take-le, getD-drop}
 use lib.Pow.{pow-add}
 use Rattle.lists.specs.Lists.{byte}
+use Rattle.lists.proofs.Lists.{zero-at}
 use Rattle.wire.specs.Names.{nameOf, keptName}
 use Rattle.wire.specs.Header.{fourAt, eightAt}
 use Rattle.wire.specs.Write.{four}
@@ -45,9 +46,7 @@ zeros-spelled [] (suc m) = rw (zeros-spelled [] m)
 zeros-spelled (x ∷ xs) m = rw (zeros-spelled xs m)
 
 zeros-below : (m i : ℕ) → byte (replicate m 0) i < 256
-zeros-below zero i = lit< tt
-zeros-below (suc m) zero = lit< tt
-zeros-below (suc m) (suc i) = zeros-below m i
+zeros-below m i = rw (zero-at m i) (lit< tt)
 
 padded-below : (xs : List ℕ) (k m i : ℕ) → ((j : ℕ) → byte xs j < 256) → byte (take k xs ++ replicate m 0) i < 256
 padded-below [] k m i below = rw (take-nil {A = ℕ} k) (zeros-below m i)

@@ -20,4 +20,4 @@ front-refusal-spec =
     (λ c. omega (arith, long-enough _ _ (c .before .number .ensures) (c .before .before .before .before .args .d .now) _ (c .before .before .lead-refusal .ensures) (c .if1 .left)))
     (λ c κs. search needs)
     (λ c. search (goes leadRows nameRows frontRows (λ d. refl) (λ d. tt), negated, flag-yes, flag-no) depth 8)
-    (λ c. search (goes leadRows nameRows frontRows (λ d. refl) (λ d. tt), negated, flag-yes, flag-no) depth 8))
+    (λ c. search (goes leadRows nameRows frontRows (λ d. refl) (λ d. tt), negated, flag-no) depth 8))
