@@ -9,7 +9,6 @@ use native.Mathlib.Decide.{decLt}
 use lib.Dec.{lit<}
 use lib.ListN.{length, getD, set, replicate, length-replicate}
 use borrow.Author.Tests.{lt-ltb, le-ltb}
-use borrow.Rule.Slice.PartMut.{putMid}
 use Rattle.lists.specs.Lists.{byte, put, upTo}
 use Rattle.lists.proofs.Lists.{within, one-more, put-none, put-more, put-length, set-put, zero-at, put-inside, put-after, upTo-same, upTo-more, upTo-length, upTo-at}
 use Rattle.samples.specs.declared.Format.{Format}
@@ -21,7 +20,7 @@ use Rattle.track.specs.Bytes.{sampleAt, sampleBytes}
 use Rattle.track.specs.Records.{recordOf, recordsOf, laidOf, packetSlot}
 use Rattle.track.specs.Blocks.{slotsFrom, Slots, blockSlot, blockFrames}
 use Rattle.track.proofs.Spelling.{sample-below}
-use Rattle.track.proofs.Laying.{record-length, laid-length, LayingFrames, frame-room, frames-next}
+use Rattle.track.proofs.Laying.{record-length, laid-length}
 
 -- ---- filling
 
@@ -83,20 +82,6 @@ module _ (block : List ℕ) (at channels : ℕ) where
 
   pub silent : (c : ℕ) → channels ≤ c → 0 ≡ blockSlot block at channels c
   silent c h = rw (le-ltb c channels h)
-
--- ---- laying a block
-
-abbrev pub LayingBlock : List ℕ → ℕ → ℕ → List ℕ → ℕ → List ℕ → ℕ → ℕ → ℕ → Type 0
-LayingBlock block frames channels track₀ place track k at a = LayingFrames (blockFrames block channels) 0 channels frames track₀ place track k at a
-
-module _ (block : List ℕ) (frames channels : ℕ) (track₀ : List ℕ) (place : ℕ) (track : List ℕ) (k at a : ℕ)
-    (l : LayingBlock block frames channels track₀ place track k at a) where
-  pub lay-room : k < frames → frames * channels ≤ length block → at + channels ≤ length block
-  lay-room h m = frame-room (blockFrames block channels) 0 channels frames track₀ place track k at a l (length block) h (omega arith)
-
-  pub lay-next : (ys : List ℕ) → k < frames → place * 24 + frames * 24 ≤ length track₀ → ys ≡ recordOf (blockSlot block at channels)
-      → LayingBlock block frames channels track₀ place (putMid a (a + 24 - a) track ys) (k + 1) (at + channels) (a + 24)
-  lay-next ys h m p = frames-next (blockFrames block channels) 0 channels frames track₀ place track k at a l ys h m (p ∙ rw (l .reads, zero-add (k * channels)))
 
 -- ---- blocks
 

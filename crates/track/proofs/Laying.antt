@@ -2,12 +2,12 @@
 use mathlib.Core.Path.{_≡_, refl, ap, _∙_}
 use mathlib.Core.List.{List}
 use Prim.Native.Nat.{ℕ, _+_, _*_, _-_, _≤_, _<_, zero-le}
-use native.Mathlib.Nat.{le-antisymm}
+use native.Mathlib.Nat.{le-antisymm, add-mul}
 use native.Mathlib.Omega.{arith}
 use lib.ListN.{length}
 use borrow.Rule.Slice.PartMut.{putMid}
 use Rattle.lists.specs.Lists.{upTo}
-use Rattle.lists.proofs.Lists.{upTo-length, put-none, put-length, turn, within, one-more}
+use Rattle.lists.proofs.Lists.{upTo-length, put-none, put-length, turn, within}
 use Rattle.lists.proofs.Branches.{less-yes, less-no}
 use Rattle.samples.specs.declared.Format.{Format}
 use Rattle.samples.specs.declared.Format.the-variants.{Signed24}
@@ -51,66 +51,45 @@ laid-length t place n frames h = put-length t (recordsOf n frames) (place * 24) 
 
 -- ---- the loop
 
--- after k turns: k records laid, the next frame read at at, the next record to be written at a
-pub record LayingFrames (g : ℕ → ℕ → ℕ) (from step frames : ℕ) (track₀ : List ℕ) (place : ℕ) (track : List ℕ) (k at a : ℕ) : Type 0 where
+-- after k turns k records are laid
+pub record LayingFrames (g : ℕ → ℕ → ℕ) (frames : ℕ) (track₀ : List ℕ) (place : ℕ) (track : List ℕ) (k : ℕ) : Type 0 where
   pub turns : k ≤ frames
   pub same : length track ≡ length track₀
-  pub reads : at ≡ from + k * step
-  pub writes : a ≡ place * 24 + k * 24
   pub so-far : track ≡ laidOf track₀ place k g
 
-module _ (g : ℕ → ℕ → ℕ) (from step frames : ℕ) (track₀ : List ℕ) (place : ℕ) where
-  pub frames-start : LayingFrames g from step frames track₀ place track₀ 0 from (place * 24)
+module _ (g : ℕ → ℕ → ℕ) (frames : ℕ) (track₀ : List ℕ) (place : ℕ) where
+  pub frames-start : LayingFrames g frames track₀ place track₀ 0
   unfolding laidOf recordsOf upTo
-  frames-start = record { turns = zero-le; same = refl; reads = omega arith; writes = omega arith; so-far = put-none track₀ (place * 24) }
+  frames-start = record { turns = zero-le; same = refl; so-far = put-none track₀ (place * 24) }
 
-  module _ (track : List ℕ) (k at a : ℕ) (l : LayingFrames g from step frames track₀ place track k at a) where
-    -- in a turn the frame that is read is there
-    pub frame-room : (held : ℕ) → k < frames → from + frames * step ≤ held → at + step ≤ held
-    frame-room held h m = omega (arith, l .reads, within k frames step h)
+  module _ (track : List ℕ) (k : ℕ) (l : LayingFrames g frames track₀ place track k) where
+    abbrev a : ℕ
+    a = (place + k) * 24
 
     more : (ys : List ℕ) → place * 24 + frames * 24 ≤ length track₀ → ys ≡ recordOf (g k) → putMid a (a + 24 - a) track ys ≡ laidOf track₀ place (k + 1) g
     unfolding laidOf recordsOf
-    more ys m p = turn 24 (λ j. recordOf (g j)) (λ j. record-length _) _ _ _ _ _ _ _ (l .so-far) p (l .writes) refl (omega arith)
+    more ys m p = turn 24 (λ j. recordOf (g j)) (λ j. record-length _) _ _ _ _ _ _ _ (l .so-far) p (add-mul place k 24) refl (omega arith)
 
     pub frames-next : (ys : List ℕ) → k < frames → place * 24 + frames * 24 ≤ length track₀ → ys ≡ recordOf (g k)
-        → LayingFrames g from step frames track₀ place (putMid a (a + 24 - a) track ys) (k + 1) (at + step) (a + 24)
+        → LayingFrames g frames track₀ place (putMid a (a + 24 - a) track ys) (k + 1)
     frames-next ys h m p =
         let e = more ys m p in
-        record {
-          turns = omega arith;
-          same = ap length e ∙ laid-length track₀ place (k + 1) g (omega arith);
-          reads = omega (arith, l .reads, one-more k step);
-          writes = omega (arith, l .writes);
-          so-far = e;
-        }
+        record { turns = omega arith; same = ap length e ∙ laid-length track₀ place (k + 1) g (omega arith); so-far = e }
 
     pub frames-end : frames ≤ k → track ≡ laidOf track₀ place frames g
     frames-end h = l .so-far ∙ rw (le-antisymm (l .turns) h)
 
--- of a packet's data
-abbrev pub Laying : Format → List ℕ → ℕ → ℕ → ℕ → List ℕ → ℕ → List ℕ → ℕ → ℕ → ℕ → Type 0
-Laying f d from frames channels track₀ place track k at a =
-    LayingFrames (packetSlot f d from channels) from (channels * sizeOf f) frames track₀ place track k at a
+-- in a turn the frame that is read is there
+pub frame-room : (from step frames k held : ℕ) → k < frames → from + frames * step ≤ held → from + k * step + step ≤ held
+frame-room from step frames k held h m = omega (arith, within k frames step h)
 
-module _ (f : Format) (d : List ℕ) (from frames channels : ℕ) (track₀ : List ℕ) (place : ℕ) where
-  pub start : Laying f d from frames channels track₀ place track₀ 0 from (place * 24)
-  start = frames-start (packetSlot f d from channels) from (channels * sizeOf f) frames track₀ place
-
-  module _ (track : List ℕ) (k at a : ℕ) (l : Laying f d from frames channels track₀ place track k at a) where
-    pub room : k < frames → from + frames * (channels * sizeOf f) ≤ length d → at + channels * sizeOf f ≤ length d
-    room h m = frame-room (packetSlot f d from channels) from (channels * sizeOf f) frames track₀ place track k at a l (length d) h m
-
-    one : (ys : List ℕ) → ys ≡ recordOf (frameSlot f d at channels) → ys ≡ recordOf (packetSlot f d from channels k)
-    unfolding frameSlot packetSlot
-    one ys p = p ∙ rw (l .reads)
-
-    pub next : (ys : List ℕ) → k < frames → place * 24 + frames * 24 ≤ length track₀ → ys ≡ recordOf (frameSlot f d at channels)
-        → Laying f d from frames channels track₀ place (putMid a (a + 24 - a) track ys) (k + 1) (at + channels * sizeOf f) (a + 24)
-    next ys h m p = frames-next (packetSlot f d from channels) from (channels * sizeOf f) frames track₀ place track k at a l ys h m (one ys p)
-
-    pub end : frames ≤ k → track ≡ laidOf track₀ place frames (packetSlot f d from channels)
-    end h = frames-end (packetSlot f d from channels) from (channels * sizeOf f) frames track₀ place track k at a l h
+-- a packet's frame is the one that starts so many bytes on
+pub next : (f : Format) (d : List ℕ) (from frames channels : ℕ) (track₀ : List ℕ) (place : ℕ) (track : List ℕ) (k : ℕ)
+    → LayingFrames (packetSlot f d from channels) frames track₀ place track k → (ys : List ℕ) → k < frames → place * 24 + frames * 24 ≤ length track₀
+    → ys ≡ recordOf (frameSlot f d (from + k * (channels * sizeOf f)) channels)
+    → LayingFrames (packetSlot f d from channels) frames track₀ place (putMid ((place + k) * 24) ((place + k) * 24 + 24 - (place + k) * 24) track ys) (k + 1)
+unfolding frameSlot packetSlot
+next f d from frames channels track₀ place = frames-next (packetSlot f d from channels) frames track₀ place
 
 -- a call for a count that is a literal, where the channels are that many
 pub for-count : (f : Format) (d : List ℕ) (from channels n frames : ℕ) (track₀ out : List ℕ) (place : ℕ) → channels ≡ n

@@ -47,13 +47,10 @@ fn some(d: &[u8], from: usize, frames: usize, channels: usize, track: &mut [u8],
 {
     let step = channels * SIZE;
     let mut k = 0;
-    let mut at = from;
-    let mut a = place * 24;
     while k < frames {
+        let a = (place + k) * 24;
         let e = a + 24;
-        frame(d, at, channels, &mut track[a..e]);
-        at += step;
-        a = e;
+        frame(d, from + k * step, channels, &mut track[a..e]);
         k += 1;
     }
 }
@@ -65,13 +62,10 @@ fn full(d: &[u8], from: usize, frames: usize, track: &mut [u8], place: usize)
 {
     let step = 8 * SIZE;
     let mut k = 0;
-    let mut at = from;
-    let mut a = place * 24;
     while k < frames {
+        let a = (place + k) * 24;
         let e = a + 24;
-        frame(d, at, 8, &mut track[a..e]);
-        at += step;
-        a = e;
+        frame(d, from + k * step, 8, &mut track[a..e]);
         k += 1;
     }
 }

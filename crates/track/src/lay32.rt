@@ -61,13 +61,10 @@ fn lay_all(block: &[u32], frames: usize, channels: usize, track: &mut [u8], plac
     ensures { λ _. ⌜ now (track .exit) ≡ laidOf (now (track .entry)) place frames (blockFrames (now (block .entry)) channels) ⌝ }
 {
     let mut k = 0;
-    let mut at = 0;
-    let mut a = place * 24;
     while k < frames {
+        let a = (place + k) * 24;
         let e = a + 24;
-        frame(block, at, channels, &mut track[a..e]);
-        at += channels;
-        a = e;
+        frame(block, k * channels, channels, &mut track[a..e]);
         k += 1;
     }
 }

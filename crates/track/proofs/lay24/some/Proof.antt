@@ -4,20 +4,21 @@ use native.Mathlib.Omega.{arith}
 use lib.ListN.{length}
 use borrow.Author.Needs.{needs}
 use Rattle.samples.specs.declared.Format.the-variants.{Signed24}
-use Rattle.track.proofs.Laying.{Laying, start, room, next, end}
+use Rattle.track.specs.Records.{packetSlot}
+use Rattle.track.proofs.Laying.{LayingFrames, frames-start, frame-room, next, frames-end}
 use Rattle.track.proofs.lay24.some.Statement.{statement}
 use Rattle.track.proofs.lay24.some.Tie as tie
 
 abbrev Inv : tie.InvT-loop
-Inv d from frames channels track₀ place step k₀ at₀ a₀ track k at a = Laying Signed24 d from frames channels track₀ place track k at a
+Inv d from frames channels track₀ place step k₀ track k = LayingFrames (packetSlot Signed24 d from channels) frames track₀ place track k
 
 abbrev μ : tie.MeasureT-loop
-μ d from frames channels track₀ place step k₀ at₀ a₀ track k at a = frames - k
+μ d from frames channels track₀ place step k₀ track k = frames - k
 
 has : (c : tie.In-loop Inv μ) →
     let a = c .before .before .before .before .args in
-    c .before .loop .at + a .channels * 3 ≤ length (a .d .now)
-has c = search (room Signed24)
+    a .from + c .before .loop .k * (a .channels * 3) + a .channels * 3 ≤ length (a .d .now)
+has c = search frame-room
 
 pub some-spec : {M : Type 1} → statement M
 some-spec =
@@ -26,16 +27,18 @@ some-spec =
     Inv
     μ
     (λ c. search needs)
+    (λ c. search frames-start)
     (λ c. search needs)
-    (λ c. search start)
     (λ c. search needs)
+    (λ c. search needs)
+    (λ c. omega (arith, has c))
+    (λ c. omega (arith, has c))
     (λ c. search needs)
     (λ c. search needs)
     (λ c. search needs)
     (λ c κs. (search needs, omega (arith, has (c .before)), omega (arith, c .frame-arg .given .2)))
-    (λ c. omega (arith, has (c .before .before .before .before)))
     (λ c. search needs)
     (λ c. search needs)
     (λ c. search (next Signed24))
     (λ c. search needs)
-    (λ c. search end))
+    (λ c. search frames-end))

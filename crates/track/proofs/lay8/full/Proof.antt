@@ -4,20 +4,21 @@ use native.Mathlib.Omega.{arith}
 use lib.ListN.{length}
 use borrow.Author.Needs.{needs}
 use Rattle.samples.specs.declared.Format.the-variants.{Unsigned8}
-use Rattle.track.proofs.Laying.{Laying, start, room, next, end}
+use Rattle.track.specs.Records.{packetSlot}
+use Rattle.track.proofs.Laying.{LayingFrames, frames-start, frame-room, next, frames-end}
 use Rattle.track.proofs.lay8.full.Statement.{statement}
 use Rattle.track.proofs.lay8.full.Tie as tie
 
 abbrev Inv : tie.InvT-loop
-Inv d from frames track₀ place step k₀ at₀ a₀ track k at a = Laying Unsigned8 d from frames 8 track₀ place track k at a
+Inv d from frames track₀ place step k₀ track k = LayingFrames (packetSlot Unsigned8 d from 8) frames track₀ place track k
 
 abbrev μ : tie.MeasureT-loop
-μ d from frames track₀ place step k₀ at₀ a₀ track k at a = frames - k
+μ d from frames track₀ place step k₀ track k = frames - k
 
 has : (c : tie.In-loop Inv μ) →
     let a = c .before .before .before .before .args in
-    c .before .loop .at + 8 * 1 ≤ length (a .d .now)
-has c = search (room Unsigned8)
+    a .from + c .before .loop .k * (8 * 1) + 8 * 1 ≤ length (a .d .now)
+has c = search frame-room
 
 pub full-spec : {M : Type 1} → statement M
 full-spec =
@@ -26,16 +27,18 @@ full-spec =
     Inv
     μ
     (λ c. search needs)
+    (λ c. search frames-start)
     (λ c. search needs)
-    (λ c. search start)
     (λ c. search needs)
+    (λ c. search needs)
+    (λ c. omega (arith, has c))
+    (λ c. omega (arith, has c))
     (λ c. search needs)
     (λ c. search needs)
     (λ c. search needs)
     (λ c κs. (omega (arith, has (c .before)), omega (arith, c .full-frame-arg .given .2)))
-    (λ c. omega (arith, has (c .before .before .before .before)))
     (λ c. search needs)
     (λ c. search needs)
     (λ c. search (next Unsigned8))
     (λ c. search needs)
-    (λ c. search end))
+    (λ c. search frames-end))
