@@ -230,17 +230,26 @@ pub extern "C" fn tashmirok_follow(
     ensures { λ _. ⌜ now (tally .exit) ≡ followedFor (now (kept .entry)) (now (tally .entry)) address (now (datagram .entry)) (now (track .entry)) .tally .counts ⌝ }
     ensures { λ _. ⌜ now (track .exit) ≡ followedTrack (takeOf (now (kept .entry))) address (now (datagram .entry)) (now (track .entry)) ⌝ }
 {
-    // A take that is followed keeps its name, so the bytes after it are all that can change.
     let t = kept::load(kept);
     let bytes = &kept[..];
-    let o = take::follow::outcome(&bytes[..16], t, address, datagram, track);
-    let answer = o.answer;
+    let judged = take::follow::judge(&bytes[..16], t, address, datagram, track::held(track));
+    let answer = judged.answer;
     raise(tally, answer);
-    *laid = [o.place as u64, o.frames as u64, o.skipped as u64];
     let number = answers::number(answer);
-    if number == 0 {
-        let followed = o.take;
-        kept::store_tail(followed, kept);
+    if number != 0 {
+        *laid = [0, 0, 0];
+        return number;
     }
+    // A take that is followed keeps its name, so the bytes after it are all that can change. The records come last, when nothing is
+    // left to be kept meanwhile.
+    let h = judged.header;
+    let place = take::follow::place_of(t, h);
+    *laid = [
+        place as u64,
+        h.frames as u64,
+        take::follow::skipped(t, h) as u64,
+    ];
+    kept::store_tail(take::follow::followed_by(t, h, place), kept);
+    take::follow::lay(h.format, h.frames, h.channels, datagram, place, track);
     number
 }

@@ -30,13 +30,10 @@ pub product-fits : (d n : ℕ) → d < 2 ^ 32 → n < 2 ^ 16 → d * n < 2 ^ 48
 product-fits d n p q = omega (arith, mul-le-mul (le-pred-of-lt p) (le-pred-of-lt q))
 
 module _ (t : Take) (h : Header) where
-  -- a first packet's place is 0
-  pub at-zero : t .begun ≡ false → 0 ≡ placeOf t h
-  at-zero b = rw b
-
   module _ (b : not (t .begun) ≡ true) where
+    -- a first packet's place is 0
     pub first-place : 0 ≡ placeOf t h
-    first-place = at-zero (not-true (t .begun) b)
+    first-place = rw (not-true (t .begun) b)
 
     pub first-skipped : 0 ≡ skippedOf t h
     first-skipped = rw (not-true (t .begun) b)

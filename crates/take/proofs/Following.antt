@@ -1,5 +1,5 @@
 -- What follow, lay and open put together, on plain values: a premise is what a callee ensures or a test says.
-use mathlib.Core.Path.{_≡_, refl, sym, ap, _∙_}
+use mathlib.Core.Path.{_≡_, sym, ap, _∙_}
 use mathlib.Core.Bool.{Bool, true, false, not}
 use mathlib.Core.List.{List}
 use Prim.Native.Nat.{ℕ, _+_, _*_, _^_, _≤_, _<_}
@@ -29,7 +29,6 @@ use Rattle.take.specs.declared.follow.Judged.{Judged}
 use Rattle.take.specs.Take.{noTake, openOf, openedTrack}
 use Rattle.take.specs.Tally.{cleared as clear-tally, raisedOf}
 use Rattle.take.specs.Follow.{placeOf, skippedOf, late, followRows, answerOf, judgedOf, followedBy, acceptedBy, outcomeOf, followOf, laidKnown, followedTrack}
-use Rattle.take.proofs.Checks.{at-zero}
 use Rattle.take.proofs.Exactly.{refused-track, follow-track, follow-refused, follow-accepted}
 
 -- ---- a packet's records
@@ -111,9 +110,6 @@ module _ (t : Take) (address : ℕ) (d track : List ℕ) (held : ℕ) (eh : held
     pub place-room : placeOf t (j .header) + j .header .frames ≤ recordsHeld track
     place-room = rw header-is fits
 
-    pub first-room : t .begun ≡ false → j .header .frames ≤ recordsHeld track
-    first-room b = omega (arith, place-room)
-
     pub accepted-outcome : (o : Outcome) → o ≡ acceptedBy t (j .header) → o ≡ outcomeOf t address d track
     unfolding outcomeOf
     accepted-outcome o e = e ∙ rw header-is (sym (ap untallied (follow-accepted t address d track clear-tally pass)))
@@ -121,15 +117,6 @@ module _ (t : Take) (address : ℕ) (d track : List ℕ) (held : ℕ) (eh : held
     pub accepted-laid : (after : List ℕ) → after ≡ laidKnown (indexed (j .header .format)) d (j .header .frames) (j .header .channels) (placeOf t (j .header)) track
         → after ≡ followedTrack t address d track
     accepted-laid after ea = ea ∙ rw header-is (sym (follow-track t address d track pass))
-
--- a first packet: nothing was skipped
-module _ (t : Take) (h : Header) (b : t .begun ≡ false) where
-  pub first-accepted : (k : Take) → k ≡ followedBy t h → record { answer = Accepted; place = 0; frames = h .frames; skipped = 0; take = k } ≡ acceptedBy t h
-  first-accepted k e = rw (e, b)
-
-  pub first-laid : (d track after : List ℕ) → after ≡ laidKnown (indexed (h .format)) d (h .frames) (h .channels) 0 track
-      → after ≡ laidKnown (indexed (h .format)) d (h .frames) (h .channels) (placeOf t h) track
-  first-laid d track after q = q ∙ ap (λ (x : ℕ). laidKnown (indexed (h .format)) d (h .frames) (h .channels) x track) (at-zero t h b)
 
 module _ (t : Take) (h : Header) (p : ℕ) (e : p ≡ placeOf t h) where
   pub next-accepted : (s : ℕ) (k : Take) → s ≡ skippedOf t h → k ≡ followedBy t h

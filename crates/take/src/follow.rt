@@ -178,7 +178,7 @@ fn refused(a: Answer) -> Judged
 }
 
 // All rows in order.
-fn judge(name: &[u8], t: Take, address: u32, d: &[u8], held: usize) -> Judged
+pub fn judge(name: &[u8], t: Take, address: u32, d: &[u8], held: usize) -> Judged
     requires { ⌜ (now name ≡ t .name) × (length (now name) ≡ 16) ⌝ }
     ensures { λ r. ⌜ r ≡ judgedOf t address (now (d .entry)) held ⌝ }
 {
@@ -199,7 +199,7 @@ fn judge(name: &[u8], t: Take, address: u32, d: &[u8], held: usize) -> Judged
 }
 
 // The place of a packet that fits.
-fn place_of(t: Take, h: Header) -> usize
+pub fn place_of(t: Take, h: Header) -> usize
     requires { ⌜ placeOf t h < 2 ^ 64 ⌝ }
     ensures { λ r. ⌜ r ≡ placeOf t h ⌝ }
 {
@@ -211,7 +211,7 @@ fn place_of(t: Take, h: Header) -> usize
 }
 
 // The packets skipped before one that is not late.
-fn skipped(t: Take, h: Header) -> u32
+pub fn skipped(t: Take, h: Header) -> u32
     requires { ⌜ late t h ≡ false ⌝ }
     ensures { λ r. ⌜ r ≡ skippedOf t h ⌝ }
 {
@@ -222,7 +222,7 @@ fn skipped(t: Take, h: Header) -> u32
 }
 
 // The take after a packet at `place`: the first one fixes the shape.
-fn followed_by(t: Take, h: Header, place: usize) -> Take
+pub fn followed_by(t: Take, h: Header, place: usize) -> Take
     requires { ⌜ place ≡ placeOf t h ⌝ }
     ensures { λ r. ⌜ r ≡ followedBy t h ⌝ }
 {
@@ -254,7 +254,7 @@ fn followed_by(t: Take, h: Header, place: usize) -> Take
 }
 
 // A packet's records, brought to slots by its type. The header's numbers come one by one: a struct would go by way of memory.
-fn lay(format: u8, frames: u16, channels: u16, d: &[u8], place: usize, track: &mut [u8])
+pub fn lay(format: u8, frames: u16, channels: u16, d: &[u8], place: usize, track: &mut [u8])
     requires { ⌜ (channels ≤ 8) × (length (now d) ≡ 28 + frames * channels * sizeAt format) × (place + frames ≤ recordsHeld (now track)) ⌝ }
     ensures { λ _. ⌜ now (track .exit) ≡ laidKnown (indexed format) (now (d .entry)) frames channels place (now (track .entry)) ⌝ }
 {
@@ -264,25 +264,8 @@ fn lay(format: u8, frames: u16, channels: u16, d: &[u8], place: usize, track: &m
     track::lay(f, d, 28, frames as usize, channels as usize, track, place);
 }
 
-// A first packet, which lies at place 0.
-fn begin(t: Take, h: Header, d: &[u8], track: &mut [u8]) -> Outcome
-    requires { ⌜ (t .begun ≡ false) × (h .channels ≤ 8) × (length (now d) ≡ 28 + dataSize h) × (h .frames ≤ recordsHeld (now track)) ⌝ }
-    ensures { λ r. ⌜ r ≡ acceptedBy t h ⌝ }
-    ensures { λ _. ⌜ now (track .exit) ≡ laidKnown (indexed (h .format)) (now (d .entry)) (h .frames) (h .channels) (placeOf t h) (now (track .entry)) ⌝ }
-{
-    lay(h.format, h.frames, h.channels, d, 0, track);
-    Outcome {
-        answer: Answer::Accepted,
-        place: 0,
-        frames: h.frames,
-        skipped: 0,
-        take: followed_by(t, h, 0),
-    }
-}
-
-// A later packet. As two functions lay, the compiler keeps the loops that lay a function of their own, with the machine's
-// registers to themselves.
-fn go_on(t: Take, h: Header, d: &[u8], track: &mut [u8]) -> Outcome
+// A packet that is accepted.
+fn accept(t: Take, h: Header, d: &[u8], track: &mut [u8]) -> Outcome
     requires { ⌜ (late t h ≡ false) × (placeOf t h < 2 ^ 64) × (h .channels ≤ 8) × (length (now d) ≡ 28 + dataSize h) × (placeOf t h + h .frames ≤ recordsHeld (now track)) ⌝ }
     ensures { λ r. ⌜ r ≡ acceptedBy t h ⌝ }
     ensures { λ _. ⌜ now (track .exit) ≡ laidKnown (indexed (h .format)) (now (d .entry)) (h .frames) (h .channels) (placeOf t h) (now (track .entry)) ⌝ }
@@ -299,7 +282,7 @@ fn go_on(t: Take, h: Header, d: &[u8], track: &mut [u8]) -> Outcome
 }
 
 // Judges a datagram and, where it is accepted, lays its records down.
-pub fn outcome(name: &[u8], take: Take, address: u32, datagram: &[u8], track: &mut [u8]) -> Outcome
+fn outcome(name: &[u8], take: Take, address: u32, datagram: &[u8], track: &mut [u8]) -> Outcome
     requires { ⌜ (now name ≡ take .name) × (length (now name) ≡ 16) ⌝ }
     ensures { λ r. ⌜ r ≡ outcomeOf take address (now (datagram .entry)) (now (track .entry)) ⌝ }
     ensures { λ _. ⌜ now (track .exit) ≡ followedTrack take address (now (datagram .entry)) (now (track .entry)) ⌝ }
@@ -315,11 +298,7 @@ pub fn outcome(name: &[u8], take: Take, address: u32, datagram: &[u8], track: &m
             take,
         };
     }
-    let header = judged.header;
-    if take.begun {
-        return go_on(take, header, datagram, track);
-    }
-    begin(take, header, datagram, track)
+    accept(take, judged.header, datagram, track)
 }
 
 // The same, and the answer's count raised.

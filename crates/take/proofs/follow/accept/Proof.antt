@@ -1,11 +1,11 @@
--- Laid at the place that follows from the newest.
+-- Laid at the place that follows from the newest, or at 0.
 use borrow.Author.Needs.{needs}
 use Rattle.take.proofs.Following.{next-accepted, next-laid}
-use Rattle.take.proofs.follow.go_on.Statement.{statement}
-use Rattle.take.proofs.follow.go_on.Tie as tie
+use Rattle.take.proofs.follow.accept.Statement.{statement}
+use Rattle.take.proofs.follow.accept.Tie as tie
 
-pub go-on-spec : {M : Type 1} → statement M
-go-on-spec =
+pub accept-spec : {M : Type 1} → statement M
+accept-spec =
     tie.close
     (tie.spec
     (λ c κs. search needs)
