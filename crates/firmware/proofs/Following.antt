@@ -13,12 +13,15 @@ use Rattle.wire.specs.Header.{headerOf}
 use Rattle.track.specs.Records.{recordsHeld}
 use Rattle.answers.specs.declared.Answer.{Answer}
 use Rattle.answers.specs.Numbers.{numberOf}
+use Rattle.answers.proofs.Numbers.{accepts}
+use Rattle.samples.specs.Formats.{indexed}
 use Rattle.take.specs.declared.Take.{Take}
 use Rattle.take.specs.declared.Outcome.{Outcome}
 use Rattle.take.specs.declared.Followed.{Followed}
 use Rattle.take.specs.Tally.{countOf, raisedOf}
-use Rattle.take.specs.Follow.{answerOf, followedBy, outcomeOf, followOf, followedTrack}
-use Rattle.take.proofs.Following.{tallied}
+use Rattle.take.specs.Follow.{placeOf, skippedOf, answerOf, judgedOf, followedBy, outcomeOf, followOf, laidKnown, followedTrack}
+use Rattle.take.specs.declared.follow.Judged.{Judged}
+use Rattle.take.proofs.Following.{tallied, refused-outcome, refused-left, accepted-outcome, accepted-laid, next-accepted, next-laid}
 use Rattle.recorder.specs.Answered.{tallyOf}
 use Rattle.firmware.specs.Kept.{tailOf, takeBytes, takeOf}
 use Rattle.firmware.specs.Face.{followedFor, laidFor, keptAfter}
@@ -59,7 +62,7 @@ module _ (kept counts d track : List ℕ) (address : ℕ) (t : Take) (o : Outcom
 
   module _ (track' kept' counts' : List ℕ) (p : track' ≡ followedTrack t address d track) (k : kept' ≡ keptAfter kept told)
       (c : counts' ≡ raisedOf (tallyOf counts) (o .answer) .counts) where
-    pub told-all : (n ≡ numberOf (told .answer)) × ((o .place ∷ o .frames ∷ o .skipped ∷ [] ≡ laidFor told) × ((kept' ≡ keptAfter kept told)
+    told-all : (n ≡ numberOf (told .answer)) × ((o .place ∷ o .frames ∷ o .skipped ∷ [] ≡ laidFor told) × ((kept' ≡ keptAfter kept told)
         × ((counts' ≡ told .tally .counts) × (track' ≡ followedTrack (takeOf kept) address d track))))
     told-all = (
       number-is,
@@ -69,9 +72,33 @@ module _ (kept counts d track : List ℕ) (address : ℕ) (t : Take) (o : Outcom
   named : o .take .name ≡ take 16 kept
   named = ap (λ (x : Outcome). x .take .name) eo ∙ name-kept t address d track ∙ sym (loaded-name kept t et)
 
-  pub kept-new : length kept ≡ 40 → (kept' : List ℕ) → n ≡ 0 → kept' ≡ put kept 16 (tailOf (o .take)) → kept' ≡ keptAfter kept told
+  kept-new : length kept ≡ 40 → (kept' : List ℕ) → n ≡ 0 → kept' ≡ put kept 16 (tailOf (o .take)) → kept' ≡ keptAfter kept told
   kept-new forty kept' z e =
       e ∙ tail-alone (o .take) kept forty named ∙ ap (λ (x : Followed). takeBytes (x .take)) same ∙ rw (← number-is, z)
 
-  pub kept-old : (n ≡ 0 → ⊥) → kept ≡ keptAfter kept told
+  kept-old : (n ≡ 0 → ⊥) → kept ≡ keptAfter kept told
   kept-old z = rw (← number-is, ne-eqb n 0 z)
+
+-- by what was judged: a refusal, and a packet that is accepted
+module _ (kept counts d track : List ℕ) (address : ℕ) (t : Take) (held : ℕ) (j : Judged) (n : ℕ) (et : t ≡ takeOf kept) (eh : held ≡ recordsHeld track)
+    (ej : j ≡ judgedOf t address d held) (q : n ≡ numberOf (j .answer)) (counts' : List ℕ) (c : counts' ≡ raisedOf (tallyOf counts) (j .answer) .counts) where
+  abbrev after : Followed
+  after = followedFor kept counts address d track
+
+  pub told-refused : (n ≡ 0 → ⊥) → (n ≡ numberOf (after .answer)) × ((0 ∷ 0 ∷ 0 ∷ [] ≡ laidFor after) × ((kept ≡ keptAfter kept after)
+      × ((counts' ≡ after .tally .counts) × (track ≡ followedTrack (takeOf kept) address d track))))
+  told-refused z =
+      let o : Outcome = record { answer = j .answer; place = 0; frames = 0; skipped = 0; take = t } in
+      let eo : o ≡ outcomeOf t address d track = refused-outcome t address d track held eh j ej n q z in
+      told-all kept counts d track address t o n et eo q track kept counts' (refused-left t address d track held eh j ej n q z) (kept-old kept counts d track address t o n et eo q z) c
+
+  pub told-accepted : n ≡ 0 → length kept ≡ 40 → (p s : ℕ) (k : Take) (kept' track' : List ℕ) → p ≡ placeOf t (j .header) → s ≡ skippedOf t (j .header) → k ≡ followedBy t (j .header)
+      → kept' ≡ put kept 16 (tailOf k) → track' ≡ laidKnown (indexed (j .header .format)) d (j .header .frames) (j .header .channels) p track
+      → (n ≡ numberOf (after .answer)) × ((p ∷ j .header .frames ∷ s ∷ [] ≡ laidFor after) × ((kept' ≡ keptAfter kept after)
+      × ((counts' ≡ after .tally .counts) × (track' ≡ followedTrack (takeOf kept) address d track))))
+  told-accepted z forty p s k kept' track' ep es ek ekept etrack =
+      let o : Outcome = record { answer = j .answer; place = p; frames = j .header .frames; skipped = s; take = k } in
+      let eo : o ≡ outcomeOf t address d track =
+      accepted-outcome t address d track held eh j ej n q z o (rw (accepts (j .answer) n q z) (next-accepted t (j .header) p ep s k es ek)) in
+      let laid : track' ≡ followedTrack t address d track = accepted-laid t address d track held eh j ej n q z track' (next-laid t (j .header) p ep d track track' etrack) in
+      told-all kept counts d track address t o n et eo q track' kept' counts' laid (kept-new kept counts d track address t o n et eo q forty kept' z ekept) c
