@@ -251,5 +251,5 @@ pub extern "C" fn tashmirok_follow(
     ];
     kept::store_tail(take::follow::followed_by(t, h, place), kept);
     take::follow::lay(h.format, h.frames, h.channels, datagram, place, track);
-    number
+    0
 }

@@ -70,7 +70,7 @@ fn damaged(shape: &Shape) -> Vec<(u32, Vec<u8>)> {
 
 /// Every type and number of channels, few frames and many, and every way to damage a header.
 pub fn all() {
-    let track = bytes(RECORDS * RECORD);
+    let track = bytes(2 * RECORDS * RECORD);
     for (format, channels) in (0..4).flat_map(|format| (1..=8).map(move |channels| (format, channels))) {
         let most = Shape::largest(format, channels);
         for frames in [1, 2, 3, 5, 7, most.frames] {

@@ -5,7 +5,8 @@ use tashmirok::Form;
 use crate::sides::NAME;
 
 pub const RECORD: usize = 24;
-pub const RECORDS: usize = 2048;
+/// A track that stays in a processor's first cache, so that the code is timed and not the memory.
+pub const RECORDS: usize = 1024;
 
 /// A data type, a number of channels and a number of frames.
 #[derive(Clone, Copy)]

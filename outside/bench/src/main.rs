@@ -33,6 +33,7 @@ fn title(what: &str) {
 }
 
 fn show(Row { what, frames, race }: Row) {
+    let ratios = [1, 2].map(|other| race.ratio(other).map_or(String::new(), |ratio| format!("{ratio:.2}")));
     let times = race.times();
     let shown = |side: usize, per: u16, digits: usize| match times.get(side) {
         Some(time) if per > 0 => format!("{:.digits$}", time / f64::from(per)),
@@ -40,8 +41,6 @@ fn show(Row { what, frames, race }: Row) {
     };
     let [calls, each] =
         [(1, 1), (frames, 2)].map(|(per, digits)| [0, 1, 2].map(|side| shown(side, per, digits)));
-    let ratios =
-        [1, 2].map(|side| times.get(side).map_or(String::new(), |time| format!("{:.2}", times[0] / time)));
     println!(
         "{what:31}|{:>8} {:>7} {:>6} |{:>7} {:>6} {:>6} |{:>6} {:>6}",
         calls[0], calls[1], calls[2], each[0], each[1], each[2], ratios[0], ratios[1],
@@ -94,7 +93,7 @@ fn refusals() -> Vec<Row> {
 
 fn main() {
     agree::all();
-    println!("Both sides give the same answers, tracks, packets and counts. One round in twenty is faster than the time shown.");
+    println!("Both sides give the same answers, tracks, packets and counts. One round in twenty is faster than the time shown; a ratio is the middle of all rounds'.");
     let mut tables =
         [("Following, accepted", following()), ("Cutting", cutting()), ("Following, refused", refusals())];
     for _ in 0..PASSES {

@@ -9,17 +9,28 @@ use crate::sides::{Side, DESK};
 const ROUNDS: usize = 40;
 const NANOSECONDS: f64 = 200_000.0;
 
+/// A load whose place in its page is that of a byte just stored has to wait, so every pass lends bytes at other places of a page.
+const PAGE: usize = 4096;
+const STEP: usize = 208;
+
 /// What every side is lent: the same bytes at the same places.
 pub struct Lent {
     track: Vec<u8>,
     out: Vec<u8>,
     datagram: Vec<u8>,
+    at: usize,
 }
 
 impl Lent {
     /// A filled track, for cutting, and a datagram, for following.
     pub fn new(datagram: Vec<u8>) -> Self {
-        Lent { track: bytes(RECORDS * RECORD), out: vec![0; 1464], datagram }
+        Lent { track: bytes(RECORDS * RECORD + PAGE), out: vec![0; 1464 + PAGE], datagram, at: 0 }
+    }
+
+    /// The track, the output and the datagram.
+    fn parts(&mut self) -> (&mut [u8], &mut [u8], &mut [u8]) {
+        let at = self.at;
+        (&mut self.track[at..at + RECORDS * RECORD], &mut self.out[at..at + 1464], &mut self.datagram)
     }
 }
 
@@ -63,11 +74,20 @@ impl Race {
 
     /// Some rounds in which all take turns.
     pub fn run(&mut self) {
+        self.lent.at = (self.lent.at + STEP) % PAGE;
         for _ in 0..ROUNDS {
             for ((sweep, &count), times) in self.sweeps.iter_mut().zip(&self.counts).zip(&mut self.times) {
                 times.push(clock(sweep, count, &mut self.lent));
             }
         }
+    }
+
+    /// The first one's time to another's, the middle of all rounds: what else the machine does tells on both sides of a round.
+    pub fn ratio(&self, other: usize) -> Option<f64> {
+        let mut ratios: Vec<f64> =
+            self.times[0].iter().zip(self.times.get(other)?).map(|(a, b)| a / b).collect();
+        ratios.sort_by(f64::total_cmp);
+        Some(ratios[ratios.len() / 2])
     }
 
     /// Nanoseconds a call: a time that one round in twenty stays under, as what else the machine does can only add to a round.
@@ -80,13 +100,14 @@ impl Race {
 /// Follows a track full of accepted packets from a fresh take, again and again.
 pub fn accepted<S: Side>(shape: Shape) -> Sweep {
     let mut side = S::open(&mut []);
-    Box::new(move |sweeps, Lent { track, datagram, .. }| {
+    Box::new(move |sweeps, lent| {
+        let (track, _, datagram) = lent.parts();
         let (mut answers, mut laid) = (0, [0; 3]);
         for _ in 0..sweeps {
             side.reopen();
             for counter in 0..shape.packets() {
                 datagram[24..28].copy_from_slice(&counter.to_le_bytes());
-                answers |= side.follow(DESK, black_box(datagram), black_box(track), &mut laid);
+                answers |= side.follow(DESK, black_box(&*datagram), black_box(&mut *track), &mut laid);
             }
         }
         assert_eq!(answers, 0);
@@ -100,10 +121,11 @@ pub fn refused<S: Side>(address: u32, due: u8) -> Sweep {
     let (mut first, begin) = (vec![0; RECORDS * RECORD], Shape::largest(1, 2).datagram());
     let mut side = S::open(&mut first);
     assert_eq!(side.follow(DESK, &begin, &mut first, &mut [0; 3]), 0);
-    Box::new(move |sweeps, Lent { track, datagram, .. }| {
+    Box::new(move |sweeps, lent| {
+        let (track, _, datagram) = lent.parts();
         let (mut same, mut laid) = (true, [0; 3]);
         for _ in 0..sweeps * CALLS {
-            same &= side.follow(address, black_box(datagram), black_box(track), &mut laid) == due;
+            same &= side.follow(address, black_box(&*datagram), black_box(&mut *track), &mut laid) == due;
         }
         assert!(same);
         sweeps * CALLS
@@ -112,11 +134,13 @@ pub fn refused<S: Side>(address: u32, due: u8) -> Sweep {
 
 /// Cuts every whole packet of a track.
 pub fn cut<S: Side>(shape: Shape) -> Sweep {
-    Box::new(move |sweeps, Lent { track, out, .. }| {
+    Box::new(move |sweeps, lent| {
+        let (track, out, _) = lent.parts();
         let (mut answers, mut written, form) = (0, 0, shape.form());
         for _ in 0..sweeps {
             for k in 0..shape.packets() {
-                answers |= S::cut(black_box(&form), black_box(track), k, black_box(out), &mut written);
+                answers |=
+                    S::cut(black_box(&form), black_box(&*track), k, black_box(&mut *out), &mut written);
             }
         }
         assert_eq!(answers, 0);
@@ -135,7 +159,8 @@ fn clear(bytes: &mut [u8]) {
 /// The least that following does: as many bytes cleared as are written, at the same places.
 pub fn cleared(shape: Shape) -> Sweep {
     let part = usize::from(shape.frames) * RECORD;
-    Box::new(move |sweeps, Lent { track, .. }| {
+    Box::new(move |sweeps, lent| {
+        let (track, _, _) = lent.parts();
         for _ in 0..sweeps {
             for k in 0..shape.packets() as usize {
                 clear(&mut black_box(&mut *track)[k * part..(k + 1) * part]);
@@ -148,7 +173,8 @@ pub fn cleared(shape: Shape) -> Sweep {
 /// The least that cutting does: as many bytes copied as are written, from the same places.
 pub fn copied(shape: Shape) -> Sweep {
     let (length, part) = (28 + shape.data(), usize::from(shape.frames) * RECORD);
-    Box::new(move |sweeps, Lent { track, out, .. }| {
+    Box::new(move |sweeps, lent| {
+        let (track, out, _) = lent.parts();
         for _ in 0..sweeps {
             for k in 0..shape.packets() as usize {
                 let from = (k * part).min(track.len() - length);
