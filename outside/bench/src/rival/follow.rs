@@ -140,9 +140,6 @@ pub fn follow(
             return refusal;
         }
     };
-    let from = packet.place as usize * 24;
-    let records = &mut track[from..from + usize::from(packet.frames) * 24];
-    lay::lay(packet.format, packet.channels, &datagram[28..], records);
     if !take.begun {
         (take.rate, take.channels, take.format) = (packet.rate, packet.channels, packet.format);
         (take.frames, take.begun) = (packet.frames, true);
@@ -150,5 +147,9 @@ pub fn follow(
     (take.newest, take.place) = (packet.counter, packet.place);
     tally[0] = tally[0].saturating_add(1);
     *laid = [packet.place, packet.frames.into(), packet.skipped.into()];
+    // The records come last, when nothing is left to be kept meanwhile.
+    let from = packet.place as usize * 24;
+    let records = &mut track[from..from + usize::from(packet.frames) * 24];
+    lay::lay(packet.format, packet.channels, &datagram[28..], records);
     0
 }
