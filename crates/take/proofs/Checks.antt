@@ -10,7 +10,7 @@ use Rattle.lists.proofs.Tables.{by-test, true-false, less-alike}
 use Rattle.wire.specs.declared.header.Header.{Header}
 use Rattle.take.specs.declared.Take.{Take}
 use Rattle.take.specs.Counter.{away, newer}
-use Rattle.take.specs.Follow.{placeOf, skippedOf, late, followedBy}
+use Rattle.take.specs.Follow.{placeOf, skippedOf, late}
 
 -- what is tested once begun, and nothing before
 pub once : (b x r : Bool) → not b ≡ false → r ≡ x → r ≡ b && x
@@ -60,15 +60,3 @@ module _ (t : Take) (h : Header) where
     -- not late, so at least one away
     pub away-one : late t h ≡ false → 1 ≤ d
     away-one l = rw e (newer-one (away 32 (h .counter) (t .newest)) (rw (not-false (t .begun) b) at l))
-
-  -- the take after a packet: the first one fixes the shape
-  module _ (p : ℕ) (e : p ≡ placeOf t h) (r : Take) where
-    pub again-taken : t .begun ≡ true
-        → r ≡ record { name = t .name; address = t .address; begun = true; rate = t .rate; channels = t .channels; format = t .format; frames = t .frames; newest = h .counter; place = p }
-        → r ≡ followedBy t h
-    again-taken b q = q ∙ rw (e, b)
-
-    pub first-taken : t .begun ≡ false
-        → r ≡ record { name = t .name; address = t .address; begun = true; rate = h .rate; channels = h .channels; format = h .format; frames = h .frames; newest = h .counter; place = p }
-        → r ≡ followedBy t h
-    first-taken b q = q ∙ rw (e, b)

@@ -38,6 +38,11 @@ once-by : {P : Type 0} (b x : Bool) → (x ≡ false → P) → b && x ≡ false
 once-by true x f e t = f e
 once-by false x f e t = absurd (true-false (sym t))
 
+-- what is the take's once begun is the packet's own
+pub own : (b : Bool) (x y : ℕ) → (b ≡ true → y ≡ x) → y ≡ choose b x y
+own true x y f = f refl
+own false x y f = refl
+
 by-once : {P : Type 0} (b x : Bool) → (P → x ≡ false) → (b ≡ true → P) → b && x ≡ false
 by-once true x f g = f (g refl)
 by-once false x f g = refl
@@ -90,6 +95,9 @@ module _ (t : Take) (h : Header) where
         no-longer = ltb-false _ _ (c .1 .0);
       }
 
+  pub shape-kept : changedShape t h ≡ false → t .begun ≡ true → SameShape t h
+  shape-kept = once-by (t .begun) _ same-by
+
   by-same : SameShape t h → any (otherKind t h ∷ ltb (t .frames) (h .frames) ∷ []) ≡ false
   by-same s =
       rw (eq-eqb (h .rate) (t .rate) (s .same-rate), eq-eqb (h .channels) (t .channels) (s .same-channels), eq-eqb (h .format) (t .format) (s .same-format), le-ltb (t .frames) (h .frames) (s .no-longer))
@@ -120,7 +128,7 @@ module _ (t : Take) (address : ℕ) (d : List ℕ) (held : ℕ) (short : length 
   take-judges : Judges (takeRows t h held) (takeRules t h held)
   take-judges =
       judged-less 8 (h .channels)
-      (judged (changedShape t h) (by-once (t .begun) _ (by-same t h)) (once-by (t .begun) _ (same-by t h))
+      (judged (changedShape t h) (by-once (t .begun) _ (by-same t h)) (shape-kept t h)
       (judged (late t h) (by-once (t .begun) _ (by-newer t h)) (once-by (t .begun) _ (newer-by t h))
       (judged-less held (placeOf t h + h .frames) tt)))
 

@@ -8,7 +8,7 @@ use native.Mathlib.Omega.{arith}
 use lib.Dec.{ltb}
 use lib.ListN.{length}
 use borrow.Author.Tests.{ltb-false, not-true, not-false}
-use Rattle.lists.specs.Tables.{unlike, NoneRefuses}
+use Rattle.lists.specs.Tables.{choose, unlike, NoneRefuses}
 use Rattle.lists.proofs.Tables.{like-by, none-says, passes-exactly}
 use Rattle.answers.specs.declared.Answer.the-variants.{Accepted, Name}
 use Rattle.answers.specs.Numbers.{numberOf}
@@ -28,8 +28,8 @@ use Rattle.take.specs.declared.Followed.{Followed}
 use Rattle.take.specs.declared.follow.Judged.{Judged}
 use Rattle.take.specs.Take.{noTake, openOf, openedTrack}
 use Rattle.take.specs.Tally.{cleared as clear-tally, raisedOf}
-use Rattle.take.specs.Follow.{placeOf, skippedOf, late, followRows, answerOf, judgedOf, followedBy, acceptedBy, outcomeOf, followOf, laidKnown, followedTrack}
-use Rattle.take.proofs.Exactly.{refused-track, follow-track, follow-refused, follow-accepted}
+use Rattle.take.specs.Follow.{placeOf, skippedOf, changedShape, late, followRows, answerOf, judgedOf, followedBy, acceptedBy, outcomeOf, followOf, laidKnown, followedTrack}
+use Rattle.take.proofs.Exactly.{own, shape-kept, refused-track, follow-track, follow-refused, follow-accepted}
 
 -- ---- a packet's records
 
@@ -57,10 +57,10 @@ module _ (t : Take) (address : ℕ) (d : List ℕ) (held : ℕ) (e : answerOf t 
 
   -- rows 11 to 15
   pub after-audio : (unlike (length d) (28 + dataSize (headerOf d)) ≡ false) × (ltb 8 (headerOf d .channels) ≡ false)
-      × (late t (headerOf d) ≡ false) × (ltb held (placeOf t (headerOf d) + headerOf d .frames) ≡ false)
+      × (changedShape t (headerOf d) ≡ false) × (late t (headerOf d) ≡ false) × (ltb held (placeOf t (headerOf d) + headerOf d .frames) ≡ false)
   after-audio =
       let r = passed .1 .1 .1 .1 .1 .1 .1 .1 .1 .1 .1 in
-      (r .0, r .1 .0, r .1 .1 .1 .0, r .1 .1 .1 .1 .0)
+      (r .0, r .1 .0, r .1 .1 .0, r .1 .1 .1 .0, r .1 .1 .1 .1 .0)
 
 -- what following gives, without the tally
 abbrev untallied : Followed → Outcome
@@ -92,11 +92,14 @@ module _ (t : Take) (address : ℕ) (d track : List ℕ) (held : ℕ) (eh : held
     header-is = ap (λ (x : Judged). x .header) ej ∙ rw (eh, pass)
 
     fits : placeOf t (headerOf d) + headerOf d .frames ≤ recordsHeld track
-    fits = ltb-false _ _ (after-audio t address d (recordsHeld track) pass .3)
+    fits = ltb-false _ _ (after-audio t address d (recordsHeld track) pass .4)
 
     -- what the packet's own functions ask
+    pub same-shape : changedShape t (j .header) ≡ false
+    same-shape = rw header-is (after-audio t address d (recordsHeld track) pass .2)
+
     pub not-late : late t (j .header) ≡ false
-    not-late = rw header-is (after-audio t address d (recordsHeld track) pass .2)
+    not-late = rw header-is (after-audio t address d (recordsHeld track) pass .3)
 
     pub place-fits : length track < 2 ^ 64 → placeOf t (j .header) < 2 ^ 64
     place-fits l = rw header-is (omega (arith, fits))
@@ -119,6 +122,16 @@ module _ (t : Take) (address : ℕ) (d track : List ℕ) (held : ℕ) (eh : held
     accepted-laid after ea = ea ∙ rw header-is (sym (follow-track t address d track pass))
 
 module _ (t : Take) (h : Header) (p : ℕ) (e : p ≡ placeOf t h) where
+  -- the take after a packet: what the first one fixed is the packet's own, but for N
+  pub taken : changedShape t h ≡ false → (n : ℕ) → n ≡ choose (t .begun) (t .frames) (h .frames) → (r : Take)
+      → r ≡ record { name = t .name; address = t .address; begun = true; rate = h .rate; channels = h .channels; format = h .format; frames = n; newest = h .counter; place = p }
+      → r ≡ followedBy t h
+  taken c n en r q =
+      let er = own (t .begun) (t .rate) (h .rate) (λ b. shape-kept t h c b .same-rate) in
+      let ec = own (t .begun) (t .channels) (h .channels) (λ b. shape-kept t h c b .same-channels) in
+      let ef = own (t .begun) (t .format) (h .format) (λ b. shape-kept t h c b .same-format) in
+      cc (q, e, en, er, ec, ef)
+
   pub next-accepted : (s : ℕ) (k : Take) → s ≡ skippedOf t h → k ≡ followedBy t h
       → record { answer = Accepted; place = p; frames = h .frames; skipped = s; take = k } ≡ acceptedBy t h
   next-accepted s k u v = rw (e, u, v)

@@ -64,4 +64,4 @@ follow-lays t address d track bytes e f k =
     let a = after-audio t address d (recordsHeld track) e in
     let laid : followedTrack t address d track ≡ laidOf track (placeOf t h) (h .frames) (packetSlot f d 28 (h .channels)) =
     follow-track t address d track e ∙ rw k in
-    rw laid (laid-down f d bytes h (placeOf t h) track (ltb-false _ _ (a .3)) (ltb-false _ _ (a .1)))
+    rw laid (laid-down f d bytes h (placeOf t h) track (ltb-false _ _ (a .4)) (ltb-false _ _ (a .1)))

@@ -4,7 +4,7 @@ ghost use mathlib.Core.Bool.{true, false};
 ghost use Prim.Native.Nat.{_+_, _*_, _^_, _≤_, _<_};
 ghost use lib.Dec.{ltb};
 ghost use lib.ListN.{length};
-ghost use Rattle.lists.specs.Tables.{first};
+ghost use Rattle.lists.specs.Tables.{first, choose};
 ghost use Rattle.answers.specs.declared.Answer.the-variants.{Accepted};
 ghost use Rattle.samples.specs.Formats.{indexed, sizeAt};
 ghost use Rattle.wire.specs.Names.{goodName};
@@ -221,25 +221,22 @@ pub fn skipped(t: Take, h: Header) -> u32
     crate::counter::distance(h.counter, t.newest) - 1
 }
 
-// The take after a packet at `place`: the first one fixes the shape.
+// N: the first packet fixes it.
+fn size(t: Take, h: Header) -> u16
+    ensures { λ r. ⌜ r ≡ choose (t .begun) (t .frames) (h .frames) ⌝ }
+{
+    if t.begun {
+        return t.frames;
+    }
+    h.frames
+}
+
+// The take after a packet at `place`. What else the first packet fixed is the same in each that is accepted.
 pub fn followed_by(t: Take, h: Header, place: usize) -> Take
-    requires { ⌜ place ≡ placeOf t h ⌝ }
+    requires { ⌜ (place ≡ placeOf t h) × (changedShape t h ≡ false) ⌝ }
     ensures { λ r. ⌜ r ≡ followedBy t h ⌝ }
 {
     let name = t.name;
-    if t.begun {
-        return crate::open::made(
-            name,
-            t.address,
-            true,
-            t.rate,
-            t.channels,
-            t.format,
-            t.frames,
-            h.counter,
-            place,
-        );
-    }
     crate::open::made(
         name,
         t.address,
@@ -247,7 +244,7 @@ pub fn followed_by(t: Take, h: Header, place: usize) -> Take
         h.rate,
         h.channels,
         h.format,
-        h.frames,
+        size(t, h),
         h.counter,
         place,
     )
@@ -266,7 +263,7 @@ pub fn lay(format: u8, frames: u16, channels: u16, d: &[u8], place: usize, track
 
 // A packet that is accepted.
 fn accept(t: Take, h: Header, d: &[u8], track: &mut [u8]) -> Outcome
-    requires { ⌜ (late t h ≡ false) × (placeOf t h < 2 ^ 64) × (h .channels ≤ 8) × (length (now d) ≡ 28 + dataSize h) × (placeOf t h + h .frames ≤ recordsHeld (now track)) ⌝ }
+    requires { ⌜ (changedShape t h ≡ false) × (late t h ≡ false) × (placeOf t h < 2 ^ 64) × (h .channels ≤ 8) × (length (now d) ≡ 28 + dataSize h) × (placeOf t h + h .frames ≤ recordsHeld (now track)) ⌝ }
     ensures { λ r. ⌜ r ≡ acceptedBy t h ⌝ }
     ensures { λ _. ⌜ now (track .exit) ≡ laidKnown (indexed (h .format)) (now (d .entry)) (h .frames) (h .channels) (placeOf t h) (now (track .entry)) ⌝ }
 {

@@ -1,14 +1,8 @@
--- The take is built anew, with the shape that the first packet fixed.
+-- The take is built anew.
 use borrow.Author.Needs.{needs}
-use Rattle.take.proofs.Checks.{again-taken, first-taken}
+use Rattle.take.proofs.Following.{taken}
 use Rattle.take.proofs.follow.followed_by.Statement.{statement}
 use Rattle.take.proofs.follow.followed_by.Tie as tie
 
 pub followed-by-spec : {M : Type 1} → statement M
-followed-by-spec =
-    tie.close
-    (tie.spec
-    (λ c κs. search needs)
-    (λ c. search again-taken)
-    (λ c κs. search needs)
-    (λ c. search first-taken))
+followed-by-spec = tie.close (tie.spec (λ c κs. search needs) (λ c κs. search needs) (λ c. search taken))
