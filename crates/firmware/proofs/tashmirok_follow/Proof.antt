@@ -5,7 +5,7 @@ use native.Mathlib.Omega.{arith}
 use lib.ListN.{length}
 use lib.Seq.{length-take-le}
 use borrow.Author.Needs.{needs}
-use Rattle.take.proofs.Following.{not-late, place-fits, few-channels, exact-length, place-room}
+use Rattle.take.proofs.Following.{same-shape, not-late, place-fits, few-channels, exact-length, place-room}
 use Rattle.firmware.proofs.Following.{loaded-name, told-refused, told-accepted}
 use Rattle.firmware.proofs.tashmirok_follow.Statement.{statement}
 use Rattle.firmware.proofs.tashmirok_follow.Tie as tie
@@ -74,7 +74,14 @@ tashmirok-follow-spec =
     let a = loading m .before .before .before .before .before .args in
     not-late (loading m .load .result) (a .address) (a .datagram .now) (a .track .now) _ (j .before .held .ensures) _ (j .judge .ensures) _ (m .number .ensures) (c .before .before .before .if1 .left))
     (λ c. search needs)
-    (λ c κs. search needs)
+    (λ c κs.
+    let p = c .before .before .before in
+    let m = p .before .before .before in
+    let j = judging m in
+    let a = loading m .before .before .before .before .before .args in (
+      p .place-of .ensures,
+      same-shape (loading m .load .result) (a .address) (a .datagram .now) (a .track .now) _ (j .before .held .ensures) _ (j .judge .ensures) _ (m .number .ensures) (p .before .before .if1 .left),
+    ))
     (λ c κs. search needs)
     (λ c κs.
     let p = c .before .before .before .before .before .before .before in
