@@ -95,23 +95,12 @@ module _ (t : Take) (address : ℕ) (d track : List ℕ) (held : ℕ) (eh : held
     fits = ltb-false _ _ (after-audio t address d (recordsHeld track) pass .4)
 
     -- what the packet's own functions ask
-    pub same-shape : changedShape t (j .header) ≡ false
-    same-shape = rw header-is (after-audio t address d (recordsHeld track) pass .2)
-
-    pub not-late : late t (j .header) ≡ false
-    not-late = rw header-is (after-audio t address d (recordsHeld track) pass .3)
-
-    pub place-fits : length track < 2 ^ 64 → placeOf t (j .header) < 2 ^ 64
-    place-fits l = rw header-is (omega (arith, fits))
-
-    pub few-channels : j .header .channels ≤ 8
-    few-channels = rw header-is (ltb-false _ _ (after-audio t address d (recordsHeld track) pass .1))
-
-    pub exact-length : length d ≡ 28 + dataSize (j .header)
-    exact-length = rw header-is (like-by _ _ (after-audio t address d (recordsHeld track) pass .0))
-
-    pub place-room : placeOf t (j .header) + j .header .frames ≤ recordsHeld track
-    place-room = rw header-is fits
+    pub asked : length track < 2 ^ 64
+        → (changedShape t (j .header) ≡ false) × (late t (j .header) ≡ false) × (placeOf t (j .header) < 2 ^ 64) × (j .header .channels ≤ 8)
+        × (length d ≡ 28 + dataSize (j .header)) × (placeOf t (j .header) + j .header .frames ≤ recordsHeld track)
+    asked l =
+        let a = after-audio t address d (recordsHeld track) pass in
+        rw header-is (a .2, a .3, omega (arith, fits), ltb-false _ _ (a .1), like-by _ _ (a .0), fits)
 
     pub accepted-outcome : (o : Outcome) → o ≡ acceptedBy t (j .header) → o ≡ outcomeOf t address d track
     unfolding outcomeOf

@@ -1,11 +1,15 @@
 -- The take is loaded, the datagram judged and the count raised; where it is accepted, the take is stored and the records are laid.
 use mathlib.Core.Path.{_≡_, sym}
-use Prim.Native.Nat.{_^_, _<_}
+use mathlib.Core.Bool.{false}
+use Prim.Native.Nat.{_+_, _^_, _≤_, _<_}
 use native.Mathlib.Omega.{arith}
 use lib.ListN.{length}
 use lib.Seq.{length-take-le}
 use borrow.Author.Needs.{needs}
-use Rattle.take.proofs.Following.{same-shape, not-late, place-fits, few-channels, exact-length, place-room}
+use Rattle.wire.specs.Header.{dataSize}
+use Rattle.track.specs.Records.{recordsHeld}
+use Rattle.take.specs.Follow.{placeOf, changedShape, late}
+use Rattle.take.proofs.Following.{asked}
 use Rattle.firmware.proofs.Following.{loaded-name, told-refused, told-accepted}
 use Rattle.firmware.proofs.tashmirok_follow.Statement.{statement}
 use Rattle.firmware.proofs.tashmirok_follow.Tie as tie
@@ -31,6 +35,19 @@ refuses c =
     let a = l .before .before .before .before .before .args in
     told-refused (a .kept .now) (a .tally .now) (a .datagram .now) (a .track .now) (a .address) _ _ _ _ (l .load .ensures) (j .before .held .ensures) (j .judge .ensures)
     (m .number .ensures) _ (m .before .raise .ensures) (c .before .if1 .taken)
+
+-- what the functions of a packet that is accepted ask
+asks : (m : tie.After-number) → m .number .result ≡ 0 →
+    let t = loading m .load .result in
+    let h = judging m .judge .result .header in
+    let a = loading m .before .before .before .before .before .args in
+    (changedShape t h ≡ false) × (late t h ≡ false) × (placeOf t h < 2 ^ 64) × (h .channels ≤ 8) × (length (a .datagram .now) ≡ 28 + dataSize h)
+    × (placeOf t h + h .frames ≤ recordsHeld (a .track .now))
+asks m z =
+    let j = judging m in
+    let l = loading m in
+    let a = l .before .before .before .before .before .args in
+    asked (l .load .result) (a .address) (a .datagram .now) (a .track .now) _ (j .before .held .ensures) _ (j .judge .ensures) _ (m .number .ensures) z (short l)
 
 accepts : tie.Need-returns-2
 accepts c =
@@ -62,37 +79,15 @@ tashmirok-follow-spec =
     (λ c κs. search needs)
     (λ c. search needs)
     refuses
-    (λ c κs.
-    let m = c .before .before in
-    let j = judging m in
-    let a = loading m .before .before .before .before .before .args in
-    place-fits (loading m .load .result) (a .address) (a .datagram .now) (a .track .now) _ (j .before .held .ensures) _ (j .judge .ensures) _ (m .number .ensures) (c .before .if1 .left) (short (loading m)))
+    (λ c κs. asks (c .before .before) (c .before .if1 .left) .2)
     (λ c. search needs)
-    (λ c κs.
-    let m = c .before .before .before .before in
-    let j = judging m in
-    let a = loading m .before .before .before .before .before .args in
-    not-late (loading m .load .result) (a .address) (a .datagram .now) (a .track .now) _ (j .before .held .ensures) _ (j .judge .ensures) _ (m .number .ensures) (c .before .before .before .if1 .left))
+    (λ c κs. let p = c .before .before in asks (p .before .before) (p .before .if1 .left) .1)
     (λ c. search needs)
-    (λ c κs.
-    let p = c .before .before .before in
-    let m = p .before .before .before in
-    let j = judging m in
-    let a = loading m .before .before .before .before .before .args in (
-      p .place-of .ensures,
-      same-shape (loading m .load .result) (a .address) (a .datagram .now) (a .track .now) _ (j .before .held .ensures) _ (j .judge .ensures) _ (m .number .ensures) (p .before .before .if1 .left),
-    ))
+    (λ c κs. let p = c .before .before .before in (p .place-of .ensures, asks (p .before .before .before) (p .before .before .if1 .left) .0))
     (λ c κs. search needs)
     (λ c κs.
     let p = c .before .before .before .before .before .before .before in
-    let m = p .before .before .before in
-    let j = judging m in
-    let t = loading m .load .result in
-    let a = loading m .before .before .before .before .before .args in
-    let z = p .before .before .if1 .left in (
-      few-channels t (a .address) (a .datagram .now) (a .track .now) _ (j .before .held .ensures) _ (j .judge .ensures) _ (m .number .ensures) z,
-      exact-length t (a .address) (a .datagram .now) (a .track .now) _ (j .before .held .ensures) _ (j .judge .ensures) _ (m .number .ensures) z,
-      omega (arith, p .place-of .ensures, place-room t (a .address) (a .datagram .now) (a .track .now) _ (j .before .held .ensures) _ (j .judge .ensures) _ (m .number .ensures) z),
-    ))
+    let q = asks (p .before .before .before) (p .before .before .if1 .left) in
+    (q .3, q .4, omega (arith, p .place-of .ensures, q .5)))
     (λ c. search needs)
     accepts)

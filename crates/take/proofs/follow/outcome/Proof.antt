@@ -1,8 +1,13 @@
 -- Judged and, where accepted, laid down.
+use Prim.Native.Nat.{_^_, _<_}
+use lib.ListN.{length}
 use borrow.Author.Needs.{needs}
-use Rattle.take.proofs.Following.{refused-outcome, refused-left, same-shape, not-late, place-fits, few-channels, exact-length, place-room, accepted-outcome, accepted-laid}
+use Rattle.take.proofs.Following.{refused-outcome, refused-left, asked, accepted-outcome, accepted-laid}
 use Rattle.take.proofs.follow.outcome.Statement.{statement}
 use Rattle.take.proofs.follow.outcome.Tie as tie
+
+short : (c : tie.After-held) → length (c .before .before .before .before .before .args .track .now) < 2 ^ 64
+short c = search needs
 
 pub outcome-spec : {M : Type 1} → statement M
 outcome-spec =
@@ -13,6 +18,9 @@ outcome-spec =
     (λ c κs. search needs)
     (λ c. search needs)
     (λ c. (search refused-outcome, search refused-left))
-    (λ c κs. (search same-shape, search not-late, search place-fits, search few-channels, search exact-length, search place-room))
+    (λ c κs.
+    let j = c .before .before .before in
+    let a = j .before .before .before .before .before .before .args in
+    asked (a .take) (a .address) (a .datagram .now) (a .track .now) _ (j .before .held .ensures) _ (j .judge .ensures) _ (c .before .before .number .ensures) (c .before .if1 .left) (short (j .before)))
     (λ c. search needs)
     (λ c. (search accepted-outcome, search accepted-laid)))
