@@ -92,14 +92,15 @@ module _ (kept counts d track : List ℕ) (address : ℕ) (t : Take) (held : ℕ
       let eo : o ≡ outcomeOf t address d track = refused-outcome t address d track held eh j ej n q z in
       told-all kept counts d track address t o n et eo q track kept counts' (refused-left t address d track held eh j ej n q z) (kept-old kept counts d track address t o n et eo q z) c
 
-  pub told-accepted : n ≡ 0 → length kept ≡ 40 → (p s : ℕ) (k : Take) (kept' track' : List ℕ) → p ≡ placeOf t (j .header) → s ≡ skippedOf t (j .header) → k ≡ followedBy t (j .header)
-      → kept' ≡ put kept 16 (tailOf k) → track' ≡ laidKnown (indexed (j .header .format)) d (j .header .frames) (j .header .channels) p track
+  pub told-accepted : n ≡ 0 → length kept ≡ 40 → (p s : ℕ) (kept' track' : List ℕ) → p ≡ placeOf t (j .header) → s ≡ skippedOf t (j .header)
+      → kept' ≡ put kept 16 (tailOf (followedBy (takeOf kept) (j .header))) → track' ≡ laidKnown (indexed (j .header .format)) d (j .header .frames) (j .header .channels) p track
       → (0 ≡ numberOf (after .answer)) × ((p ∷ j .header .frames ∷ s ∷ [] ≡ laidFor after) × ((kept' ≡ keptAfter kept after)
       × ((counts' ≡ after .tally .counts) × (track' ≡ followedTrack (takeOf kept) address d track))))
-  told-accepted z forty p s k kept' track' ep es ek ekept etrack =
+  told-accepted z forty p s kept' track' ep es ekept etrack =
+      let k : Take = followedBy t (j .header) in
       let o : Outcome = record { answer = j .answer; place = p; frames = j .header .frames; skipped = s; take = k } in
       let eo : o ≡ outcomeOf t address d track =
-      accepted-outcome t address d track held eh j ej n q z o (rw (accepts (j .answer) n q z) (next-accepted t (j .header) p ep s k es ek)) in
+      accepted-outcome t address d track held eh j ej n q z o (rw (accepts (j .answer) n q z) (next-accepted t (j .header) p ep s k es refl)) in
       let laid : track' ≡ followedTrack t address d track = accepted-laid t address d track held eh j ej n q z track' (next-laid t (j .header) p ep d track track' etrack) in
-      let all = told-all kept counts d track address t o n et eo q track' kept' counts' laid (kept-new kept counts d track address t o n et eo q forty kept' z ekept) c in
+      let all = told-all kept counts d track address t o n et eo q track' kept' counts' laid (kept-new kept counts d track address t o n et eo q forty kept' z (ekept ∙ rw et)) c in
       (sym z ∙ all .0, all .1)

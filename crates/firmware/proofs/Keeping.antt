@@ -1,18 +1,24 @@
 -- A take's bytes read and written, on plain values.
-use mathlib.Core.Path.{_≡_, refl, sym, _∙_}
-use mathlib.Core.Bool.{not}
-use mathlib.Core.List.{List, [], _++_, append-assoc}
-use Prim.Native.Nat.{ℕ, _+_, _*_, _/_, _%_, _^_, _≤_, zero-le}
+use mathlib.Core.Path.{_≡_, refl, sym, ap, _∙_}
+use mathlib.Core.Bool.{Bool, true, not, _&&_}
+use mathlib.Core.List.{List, [], _∷_, _++_, append-assoc}
+use Prim.Native.Nat.{ℕ, _+_, _*_, _/_, _%_, _^_, _≤_, _<_, zero-le}
 use native.Mathlib.Nat.{zero-add}
 use native.Mathlib.Omega.{arith}
 use lib.Dec.{eqb}
-use lib.ListN.{length, take, drop, replicate, length-append, length-drop, drop-of-length-le}
+use lib.ListN.{length, take, drop, replicate, length-append, length-drop, take-append-drop, drop-of-length-le}
 use lib.Seq.{length-take-le}
+use borrow.Author.Tests.{eqb-true}
 use Rattle.lists.specs.Lists.{byte, put}
 use Rattle.lists.proofs.Lists.{put-more, put-whole, copied-whole}
+use Rattle.lists.proofs.Tables.{by-test, true-false}
+use Rattle.wire.specs.declared.header.Header.{Header}
 use Rattle.wire.specs.Header.{fourAt}
 use Rattle.wire.specs.Write.{four}
+use Rattle.wire.proofs.Joining.{counter-split}
+use Rattle.wire.proofs.Fours.{low, high, front}
 use Rattle.take.specs.declared.Take.{Take}
+use Rattle.take.specs.Follow.{placeOf, followedBy}
 use Rattle.firmware.specs.Kept.{shapeOf, newestOf, tailOf, takeBytes, twoAt, takeOf}
 
 -- ---- read
@@ -50,16 +56,16 @@ three d s t u o₁ o₂ o₃ a b c p q r eb ec h =
     let e : c ≡ a + length (s ++ t) = omega (arith, eb, ec, length-append s t) in
     r ∙ rw (two, e, put-more d (s ++ t) u a h, append-assoc)
 
-module _ (t : Take) (kept : List ℕ) (forty : length kept ≡ 40) where
-  pub newest-stored : (newest low high o₁ o₂ o₃ : List ℕ) → newest ≡ four (t .newest) → low ≡ four (t .place % 2 ^ 32) → high ≡ four (t .place / 2 ^ 32)
-      → o₁ ≡ put kept 28 newest → o₂ ≡ put o₁ 32 low → o₃ ≡ put o₂ 36 high → o₃ ≡ put kept 28 (newestOf t)
-  newest-stored newest low high o₁ o₂ o₃ en el eh p q r =
-      three kept (four (t .newest)) (four (t .place % 2 ^ 32)) (four (t .place / 2 ^ 32)) o₁ o₂ o₃ 28 32 36 (p ∙ rw en) (q ∙ rw el) (r ∙ rw eh) refl refl (omega (arith, forty))
+pub newest-stored : (n p : ℕ) (kept : List ℕ) → length kept ≡ 40 → (newest low high o₁ o₂ o₃ : List ℕ) → newest ≡ four n → low ≡ four (p % 2 ^ 32) → high ≡ four (p / 2 ^ 32)
+    → o₁ ≡ put kept 28 newest → o₂ ≡ put o₁ 32 low → o₃ ≡ put o₂ 36 high → o₃ ≡ put kept 28 (newestOf n p)
+newest-stored n p kept forty newest low high o₁ o₂ o₃ en el eh x y z =
+    three kept (four n) (four (p % 2 ^ 32)) (four (p / 2 ^ 32)) o₁ o₂ o₃ 28 32 36 (x ∙ rw en) (y ∙ rw el) (z ∙ rw eh) refl refl (omega (arith, forty))
 
+module _ (t : Take) (kept : List ℕ) (forty : length kept ≡ 40) where
   pub tail-stored : (address shape o₁ o₂ o₃ : List ℕ) → address ≡ four (t .address) → shape ≡ shapeOf t → o₁ ≡ put kept 16 address → o₂ ≡ put o₁ 20 shape
-      → o₃ ≡ put o₂ 28 (newestOf t) → o₃ ≡ put kept 16 (tailOf t)
+      → o₃ ≡ put o₂ 28 (newestOf (t .newest) (t .place)) → o₃ ≡ put kept 16 (tailOf t)
   tail-stored address shape o₁ o₂ o₃ ea es p q r =
-      three kept (four (t .address)) (shapeOf t) (newestOf t) o₁ o₂ o₃ 16 20 28 (p ∙ rw ea) (q ∙ rw es) r refl refl (omega (arith, forty))
+      three kept (four (t .address)) (shapeOf t) (newestOf (t .newest) (t .place)) o₁ o₂ o₃ 16 20 28 (p ∙ rw ea) (q ∙ rw es) r refl refl (omega (arith, forty))
 
   pub take-stored : (o₁ o₂ : List ℕ) → length (t .name) ≡ 16 → o₁ ≡ put kept 0 (t .name) → o₂ ≡ put o₁ 16 (tailOf t) → o₂ ≡ takeBytes t
   unfolding takeBytes
@@ -73,3 +79,53 @@ unfolding put takeBytes
 tail-alone t kept forty e =
     let z : drop 24 (drop 16 kept) ≡ [] = drop-of-length-le (drop 16 kept) {i = 24} (rw (length-drop 16 kept) (omega (arith, forty))) in
     rw (z, e)
+
+-- ---- followed
+
+pub plain-by : (r : Bool) (a b : ℕ) → r ≡ (eqb a 1 && eqb b 0) → r ≡ true → (a ≡ 1) × (b ≡ 0)
+plain-by r a b e t =
+    by-test (λ x. eqb a 1 ≡ x → (x && eqb b 0) ≡ true → (a ≡ 1) × (b ≡ 0)) (eqb a 1)
+    (λ x u v. (eqb-true a 1 u, eqb-true b 0 v)) (λ x u v. absurd (true-false (sym v))) refl (sym e ∙ t)
+
+module _ (kept : List ℕ) (forty : length kept ≡ 40) where
+  -- the bytes from the address to N
+  abbrev fixed : List ℕ
+  fixed =
+      byte kept 16 ∷ byte kept 17 ∷ byte kept 18 ∷ byte kept 19 ∷ byte kept 20 ∷ byte kept 21 ∷ byte kept 22 ∷ byte kept 23 ∷ byte kept 24 ∷ byte kept 25 ∷ byte kept 26 ∷ byte kept 27 ∷ []
+
+  from-address : drop 16 kept ≡ fixed ++ drop 28 kept
+  from-address = front kept 16 (omega (arith, forty)) ∙ rw (front kept 20 (omega (arith, forty)), front kept 24 (omega (arith, forty)))
+
+  fixed-stays : put kept 16 fixed ≡ kept
+  unfolding put
+  fixed-stays =
+      ap (λ (l : List ℕ). take 16 kept ++ (fixed ++ drop 12 l)) from-address
+      ∙ ap (λ (l : List ℕ). take 16 kept ++ l) (sym from-address)
+      ∙ take-append-drop 16 kept
+
+  -- a take that has begun keeps all but the newest counter and place
+  pub plain-stored : ((i : ℕ) → byte kept i < 256) → (byte kept 20 ≡ 1) × (byte kept 23 ≡ 0) → (h : Header) (p : ℕ) → p ≡ placeOf (takeOf kept) h → (o : List ℕ)
+      → o ≡ put kept 28 (newestOf (h .counter) p) → o ≡ put kept 16 (tailOf (followedBy (takeOf kept) h))
+  unfolding takeOf
+  plain-stored below plain h p e o q =
+      let n : List ℕ = newestOf (h .counter) p in
+      let address : four (fourAt kept 16) ≡ byte kept 16 ∷ byte kept 17 ∷ byte kept 18 ∷ byte kept 19 ∷ [] =
+      counter-split (byte kept 16) (byte kept 17) (byte kept 18) (byte kept 19) (below 16) (below 17) (below 18) (below 19) in
+      let k : Take = followedBy (takeOf kept) h in
+      let m : List ℕ = newestOf (k .newest) (k .place) in
+      let shape : shapeOf k ≡ byte kept 20 ∷ byte kept 21 ∷ byte kept 22 ∷ byte kept 23 ∷ byte kept 24 ∷ byte kept 25 ∷ byte kept 26 ∷ byte kept 27 ∷ [] =
+      rw (
+        plain .0,
+        plain .1,
+        low 256 (byte kept 24) (byte kept 25) (below 24),
+        high 256 (byte kept 24) (byte kept 25) (below 24),
+        low 256 (byte kept 26) (byte kept 27) (below 26),
+        high 256 (byte kept 26) (byte kept 27) (below 26),
+      ) in
+      let tail : tailOf k ≡ fixed ++ n =
+      ap (λ (l : List ℕ). l ++ (shapeOf k ++ m)) address ∙ ap (λ (l : List ℕ). (byte kept 16 ∷ byte kept 17 ∷ byte kept 18 ∷ byte kept 19 ∷ []) ++ (l ++ m)) shape ∙ rw e in
+      q ∙ ap (λ (l : List ℕ). put l 28 n) (sym fixed-stays) ∙ put-more kept fixed n 16 (omega (arith, forty)) ∙ ap (put kept 16) (sym tail)
+
+pub tail-followed : (kept o : List ℕ) (t k : Take) (h : Header) → t ≡ takeOf kept → k ≡ followedBy t h → o ≡ put kept 16 (tailOf k)
+    → o ≡ put kept 16 (tailOf (followedBy (takeOf kept) h))
+tail-followed kept o t k h et ek q = q ∙ rw (ek, et)

@@ -18,12 +18,12 @@ two n = n % 256 ∷ n / 256 ∷ []
 abbrev pub shapeOf : Take → List ℕ
 shapeOf t = choose (t .begun) 1 0 ∷ t .rate ∷ t .format ∷ 0 ∷ (two (t .channels) ++ two (t .frames))
 
-abbrev pub newestOf : Take → List ℕ
-newestOf t = four (t .newest) ++ (four (t .place % 2 ^ 32) ++ four (t .place / 2 ^ 32))
+abbrev pub newestOf : ℕ → ℕ → List ℕ
+newestOf newest place = four newest ++ (four (place % 2 ^ 32) ++ four (place / 2 ^ 32))
 
 -- the bytes after the name
 abbrev pub tailOf : Take → List ℕ
-tailOf t = four (t .address) ++ (shapeOf t ++ newestOf t)
+tailOf t = four (t .address) ++ (shapeOf t ++ newestOf (t .newest) (t .place))
 
 unfoldable pub takeBytes : Take → List ℕ
 takeBytes t = t .name ++ tailOf t

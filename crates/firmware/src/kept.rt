@@ -1,11 +1,15 @@
 // A take as the bytes that a caller in C keeps.
 ghost use mathlib.Core.Path.{_≡_};
+ghost use mathlib.Core.Bool.{false, _&&_};
+ghost use lib.Dec.{eqb};
 ghost use Prim.Native.Nat.{_+_, _*_, _^_, _≤_};
 ghost use lib.ListN.{length, take as takeFirst};
 ghost use Rattle.lists.specs.Lists.{put};
 ghost use Rattle.lists.specs.Tables.{choose};
 ghost use Rattle.firmware.specs.Kept.{shapeOf, newestOf, tailOf, takeBytes, twoAt, takeOf};
+ghost use Rattle.take.specs.Follow.{placeOf, changedShape, followedBy};
 use take::Take;
+use wire::header::Header;
 
 fn join(low: u8, high: u8) -> u16
     ensures { λ r. ⌜ r ≡ low + high * 256 ⌝ }
@@ -80,13 +84,13 @@ fn shape(t: Take) -> [u8; 8]
 }
 
 // The newest counter and place.
-fn store_newest(t: Take, kept: &mut [u8])
+fn store_newest(newest: u32, place: usize, kept: &mut [u8])
     requires { ⌜ length (now kept) ≡ 40 ⌝ }
-    ensures { λ _. ⌜ now (kept .exit) ≡ put (now (kept .entry)) 28 (newestOf t) ⌝ }
+    ensures { λ _. ⌜ now (kept .exit) ≡ put (now (kept .entry)) 28 (newestOf newest place) ⌝ }
 {
-    let newest = wire::bits::split_counter(t.newest);
-    let low = wire::bits::split_counter((t.place % 4294967296) as u32);
-    let high = wire::bits::split_counter((t.place / 4294967296) as u32);
+    let newest = wire::bits::split_counter(newest);
+    let low = wire::bits::split_counter((place % 4294967296) as u32);
+    let high = wire::bits::split_counter((place / 4294967296) as u32);
     wire::write::place(&newest, kept, 28);
     wire::write::place(&low, kept, 32);
     wire::write::place(&high, kept, 36);
@@ -101,7 +105,27 @@ pub(crate) fn store_tail(t: Take, kept: &mut [u8])
     let shape = shape(t);
     wire::write::place(&address, kept, 16);
     wire::write::place(&shape, kept, 20);
-    store_newest(t, kept);
+    store_newest(t.newest, t.place, kept);
+}
+
+// Whether a take has begun and its bytes are as we write them.
+fn is_plain(begun: u8, spare: u8) -> bool
+    ensures { λ r. ⌜ r ≡ (eqb begun 1 && eqb spare 0) ⌝ }
+{
+    begun == 1 && spare == 0
+}
+
+// The bytes of the take after a packet at `place`. Once begun, the newest counter and place are all that changes.
+pub(crate) fn store_followed(h: Header, place: usize, kept: &mut [u8])
+    requires { ⌜ (length (now kept) ≡ 40) × (place ≡ placeOf (takeOf (now kept)) h) × (changedShape (takeOf (now kept)) h ≡ false) ⌝ }
+    ensures { λ _. ⌜ now (kept .exit) ≡ put (now (kept .entry)) 16 (tailOf (followedBy (takeOf (now (kept .entry))) h)) ⌝ }
+{
+    if is_plain(kept[20], kept[23]) {
+        store_newest(h.counter, place, kept);
+        return;
+    }
+    let t = load(kept);
+    store_tail(take::follow::followed_by(t, h, place), kept);
 }
 
 // A take's bytes over those that the caller keeps.

@@ -249,7 +249,7 @@ pub extern "C" fn tashmirok_follow(
         h.frames as u64,
         take::follow::skipped(t, h) as u64,
     ];
-    kept::store_tail(take::follow::followed_by(t, h, place), kept);
+    kept::store_followed(h, place, kept);
     take::follow::lay(h.format, h.frames, h.channels, datagram, place, track);
     0
 }

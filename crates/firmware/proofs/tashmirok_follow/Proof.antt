@@ -52,16 +52,15 @@ asks m z =
 accepts : tie.Need-returns-2
 accepts c =
     let s = c .before .before .before .before in
-    let f = s .before .before in
-    let k = f .before .before in
+    let k = s .before .before .before in
     let p = k .before .before in
     let m = p .before .before .before in
     let j = judging m in
     let l = loading m in
     let a = l .before .before .before .before .before .args in
     told-accepted (a .kept .now) (a .tally .now) (a .datagram .now) (a .track .now) (a .address) _ _ _ _ (l .load .ensures) (j .before .held .ensures) (j .judge .ensures)
-    (m .number .ensures) _ (m .before .raise .ensures) (p .before .before .if1 .left) (forty l) _ _ _ _ _ (p .place-of .ensures) (k .skipped .ensures)
-    (f .followed-by .ensures) (s .store-tail .ensures) (c .before .before .lay .ensures)
+    (m .number .ensures) _ (m .before .raise .ensures) (p .before .before .if1 .left) (forty l) _ _ _ _ (p .place-of .ensures) (k .skipped .ensures)
+    (s .store-followed .ensures) (c .before .before .lay .ensures)
 
 pub tashmirok-follow-spec : {M : Type 1} → statement M
 tashmirok-follow-spec =
@@ -83,10 +82,13 @@ tashmirok-follow-spec =
     (λ c. search needs)
     (λ c κs. let p = c .before .before in asks (p .before .before) (p .before .if1 .left) .1)
     (λ c. search needs)
-    (λ c κs. let p = c .before .before .before in (p .place-of .ensures, asks (p .before .before .before) (p .before .before .if1 .left) .0))
-    (λ c κs. search needs)
     (λ c κs.
-    let p = c .before .before .before .before .before .before .before in
+    let p = c .before .before .before .before in
+    let m = p .before .before .before in
+    let e = loading m .load .ensures in
+    (forty (loading m), rw (← e) (p .place-of .ensures), rw (← e) (asks m (p .before .before .if1 .left) .0)))
+    (λ c κs.
+    let p = c .before .before .before .before .before .before in
     let q = asks (p .before .before .before) (p .before .before .if1 .left) in
     (q .3, q .4, omega (arith, p .place-of .ensures, q .5)))
     (λ c. search needs)
