@@ -7,7 +7,7 @@ use native.Mathlib.Omega.{arith}
 use native.Mathlib.Decide.{decLt}
 use native.Mathlib.Numerals.{add-one}
 use lib.ListN.{length, getD, set, take, drop, replicate, length-append, length-take, length-drop, take-append-drop, drop-of-length-le, List·getD-append}
-use lib.Seq.{sets, sets-eq, take-at, drop-at, drop-drop, length-take-le, take-length, take-add, getD-append-add, getD-take, getD-drop}
+use lib.Seq.{sets, sets-eq, take-at, drop-at, drop-append-add, drop-drop, length-take-le, take-length, take-add, getD-append-add, getD-take, getD-drop}
 use borrow.Rule.Slice.PartMut.{putMid}
 use Rattle.lists.specs.Lists.{byte, put, upTo}
 
@@ -51,6 +51,17 @@ put-more d s t at h =
       length-append s t,
     )
     (simp append-assoc)
+
+-- what is written over by as much or more leaves nothing
+pub put-over : (d s t : List ℕ) (at : ℕ) → at ≤ length d → length s ≤ length t → put (put d at s) at t ≡ put d at t
+unfolding put
+put-over d s t at h l =
+    let p = take at d in
+    let q = drop (length s) (drop at d) in
+    let e : length p ≡ at = length-take-le at d h in
+    let m = length t - length s in
+    let n : length t ≡ length s + m = omega arith in
+    rw (take-at p (s ++ q) at e, drop-at p (s ++ q) at e, n, drop-append-add s q m, drop-drop m (length s) (drop at d))
 
 pub put-length : (d s : List ℕ) (at : ℕ) → at + length s ≤ length d → length (put d at s) ≡ length d
 unfolding put
@@ -123,6 +134,12 @@ pub upTo-more : (m n : ℕ) (f : ℕ → List ℕ) → upTo (m + n) f ≡ upTo m
 unfolding upTo
 upTo-more m zero f = rw (add-zero m) (sym (append-nil (upTo m f)))
 upTo-more m (suc n) f = rw (add-suc m n, upTo-more m n f) (append-assoc (upTo m f) (upTo n (λ i. f (m + i))) (f (m + n)))
+
+-- n runs of w each, one after the other
+pub upTo-flat : (w n : ℕ) (f : ℕ → List ℕ) → upTo n (λ k. upTo w (λ i. f (k * w + i))) ≡ upTo (n * w) f
+unfolding upTo
+upTo-flat w zero f = rw (zero-mul w)
+upTo-flat w (suc n) f = rw (upTo-flat w n f, suc-mul n w) (sym (upTo-more (n * w) w f))
 
 -- ---- n lists of w elements each
 

@@ -22,7 +22,7 @@ use Rattle.track.specs.Records.{recordsHeld, clearedOf, slotAt, recordOf
 use Rattle.track.proofs.Laying.{record-length, records-length}
 use Rattle.track.proofs.Spelling.{spelled, same-sample, sample-after}
 pub use Rattle.track.proofs.Laying.{laid-length}
-pub use Rattle.track.proofs.Spelling.{bytes-length, sample-below, bytes-back}
+pub use Rattle.track.proofs.Spelling.{bytes-length, sample-below, bytes-back, halves, word-back}
 
 -- a slot of zero bits is silence
 pub silence : signedOf 24 0 ≡ pos 0

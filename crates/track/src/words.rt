@@ -48,12 +48,20 @@ pub fn get4(d: &[u8], a: usize) -> u32
     wide(d[a]) + wide(d[a + 1]) * 256 + wide(d[a + 2]) * 65536 + wide(d[a + 3]) * 16777216
 }
 
-// As two reads of four, which become one read of eight; a sum of eight single bytes would not.
+// Two reads of four become one of eight where both stand at known places of one part; a sum of eight single bytes would not.
+fn word(d: &[u8]) -> u64
+    requires { ⌜ length (now d) ≡ 8 ⌝ }
+    ensures { λ r. ⌜ r ≡ wordAt (now (d .entry)) 0 ⌝ }
+{
+    wider(get4(d, 0)) + wider(get4(d, 4)) * 4294967296
+}
+
 pub fn get8(d: &[u8], a: usize) -> u64
     requires { ⌜ a + 8 ≤ length (now d) ⌝ }
     ensures { λ r. ⌜ r ≡ wordAt (now (d .entry)) a ⌝ }
 {
-    wider(get4(d, a)) + wider(get4(d, a + 4)) * 4294967296
+    let e = a + 8;
+    word(&d[a..e])
 }
 
 // A number's eight bytes.

@@ -24,7 +24,7 @@ unfolding sentOf
 same-sent s l = same-bits s l
 
 module _ (d : List ℕ) (below : (i : ℕ) → byte d i < 256) where
-  frame-run : (at channels : ℕ) → at + channels * 3 ≤ length d → frameOut Signed24 d at channels ≡ take (channels * 3) (drop at d)
+  pub frame-run : (at channels : ℕ) → at + channels * 3 ≤ length d → frameOut Signed24 d at channels ≡ take (channels * 3) (drop at d)
   unfolding frameOut sentAt
   frame-run at channels h = upTo-run 3 at channels d _ (λ c l.
       ap (sampleBytes Signed24) (same-sent (sampleAt Signed24 d (at + c * 3)) (sample-below Signed24 d (at + c * 3) below))

@@ -1,3 +1,5 @@
 pub mod Taking
 pub mod Runs
 pub mod Copying
+pub mod Overlaid
+pub mod Pairs

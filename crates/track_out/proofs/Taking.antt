@@ -8,15 +8,15 @@ use lib.ListN.{length, length-append}
 use lib.Seq.{sets}
 use borrow.Rule.Slice.PartMut.{putMid}
 use Rattle.lists.specs.Lists.{put, upTo}
-use Rattle.lists.proofs.Lists.{upTo-length, put-none, put-length, put-more, put-whole, lent, turn, filled, stored, within, one-more}
+use Rattle.lists.proofs.Lists.{upTo-length, upTo-same, put-none, put-length, put-more, put-whole, lent, turn, filled, stored, within, one-more}
 use Rattle.samples.specs.declared.Format.{Format}
 use Rattle.samples.specs.declared.Format.the-variants.{Unsigned8, Signed16, Signed24, Signed32}
 use Rattle.samples.specs.Formats.{sizeOf}
 use Rattle.samples.specs.Wire.{sentOf}
 use Rattle.track.specs.Bytes.{sampleAt, sampleBytes}
 use Rattle.track.specs.Records.{takenOf}
-use Rattle.track_out.specs.Frames.{sentAt, frameOut}
-use Rattle.track.proofs.Laws.{bytes-length, taken-length}
+use Rattle.track_out.specs.Frames.{sentAt, frameOut, framesOut}
+use Rattle.track.proofs.Laws.{bytes-length}
 
 -- a sample's bytes stored over the whole of what was lent
 pub stored-sample : (f : Format) (out : List ℕ) (v : ℕ) → length out ≡ sizeOf f → sets out 0 (sampleBytes f v) ≡ sampleBytes f v
@@ -84,52 +84,80 @@ module _ (f : Format) (t : List ℕ) (at channels : ℕ) (out₀ : List ℕ) (h 
 
 -- ---- the loop over the frames
 
+frames-length : (f : Format) (t : List ℕ) (s step n channels : ℕ) → length (framesOut f t s step n channels) ≡ n * (channels * sizeOf f)
+unfolding framesOut
+frames-length f t s step n channels =
+    upTo-length (channels * sizeOf f) (λ k. frameOut f t (s + k * step) channels) (λ k. frame-length f t (s + k * step) channels) n
+
+-- a frame more, in the part that it is lent
+pub frames-more : (f : Format) (t : List ℕ) (s step channels : ℕ) (out₀ out ys : List ℕ) (place k a at n : ℕ)
+    → out ≡ put out₀ place (framesOut f t s step k channels) → ys ≡ frameOut f t at channels → at ≡ s + k * step
+    → a ≡ place + k * (channels * sizeOf f) → n ≡ channels * sizeOf f → place ≤ length out₀
+    → putMid a (a + n - a) out ys ≡ put out₀ place (framesOut f t s step (k + 1) channels)
+unfolding framesOut
+frames-more f t s step channels out₀ out ys place k a at n p q r w e h =
+    turn (channels * sizeOf f) (λ j. frameOut f t (s + j * step) channels) (λ j. frame-length f t (s + j * step) channels)
+    _ _ _ _ _ _ _ p (q ∙ rw r) w (rw e) h
+
 -- after k turns: k frames written, the next read at at and written at a
-pub record Taking (f : Format) (t : List ℕ) (first frames channels : ℕ) (out₀ : List ℕ) (place : ℕ) (out : List ℕ) (k at a : ℕ) : Type 0 where
+pub record Taking (f : Format) (t : List ℕ) (s step frames channels : ℕ) (out₀ : List ℕ) (place : ℕ) (out : List ℕ) (k at a : ℕ) : Type 0 where
   pub turns : k ≤ frames
   pub same : length out ≡ length out₀
-  pub reads : at ≡ (first + k) * 24
+  pub reads : at ≡ s + k * step
   pub writes : a ≡ place + k * (channels * sizeOf f)
-  pub so-far : out ≡ put out₀ place (takenOf f t first k channels)
+  pub so-far : out ≡ put out₀ place (framesOut f t s step k channels)
 
-module _ (f : Format) (channels : ℕ) (t : List ℕ) (first frames : ℕ) (out₀ : List ℕ) (place : ℕ) where
-  pub start : Taking f t first frames channels out₀ place out₀ 0 (first * 24) place
-  unfolding takenOf upTo
+module _ (f : Format) (channels : ℕ) (t : List ℕ) (s step frames : ℕ) (out₀ : List ℕ) (place : ℕ) where
+  pub start : Taking f t s step frames channels out₀ place out₀ 0 s place
+  unfolding framesOut upTo
   start = record { turns = zero-le; same = refl; reads = omega arith; writes = omega arith; so-far = put-none out₀ place }
 
-  module _ (out : List ℕ) (k at a : ℕ) (l : Taking f t first frames channels out₀ place out k at a) where
+  module _ (out : List ℕ) (k at a : ℕ) (l : Taking f t s step frames channels out₀ place out k at a) where
     -- in a turn there is room for the frame that is written
     pub room : k < frames → place + frames * (channels * sizeOf f) ≤ length out₀ → a + channels * sizeOf f ≤ length out₀
     room h m = omega (arith, within k frames (channels * sizeOf f) h)
 
-    next-frame : (ys : List ℕ) → ys ≡ frameOut f t at channels → place + frames * (channels * sizeOf f) ≤ length out₀
-        → putMid a (a + channels * sizeOf f - a) out ys ≡ put out₀ place (takenOf f t first (k + 1) channels)
-    unfolding takenOf frameOut sentAt
-    next-frame ys p m =
-        turn (channels * sizeOf f) (λ j. frameOut f t ((first + j) * 24) channels) (λ j. frame-length f t ((first + j) * 24) channels)
-        _ _ _ _ _ _ _ (l .so-far) (p ∙ rw (l .reads)) (l .writes) refl (omega arith)
-
     pub next : (ys : List ℕ) → k < frames → place + frames * (channels * sizeOf f) ≤ length out₀ → ys ≡ frameOut f t at channels
-        → Taking f t first frames channels out₀ place (putMid a (a + channels * sizeOf f - a) out ys) (k + 1) (at + 24) (a + channels * sizeOf f)
+        → Taking f t s step frames channels out₀ place (putMid a (a + channels * sizeOf f - a) out ys) (k + 1) (at + step) (a + channels * sizeOf f)
     next ys h m p =
-        let e = next-frame ys p m in
-        let o = one-more k (channels * sizeOf f) in
+        let e = frames-more f t s step channels out₀ out ys place k a at (channels * sizeOf f) (l .so-far) p (l .reads) (l .writes) refl (omega arith) in
         record {
           turns = omega arith;
-          same = ap length e ∙ put-length out₀ (takenOf f t first (k + 1) channels) place
-              (rw (taken-length f t first (k + 1) channels) (omega (arith, within k frames (channels * sizeOf f) h)));
-          reads = omega arith;
-          writes = omega arith;
+          same = ap length e ∙ put-length out₀ (framesOut f t s step (k + 1) channels) place
+              (rw (frames-length f t s step (k + 1) channels) (omega (arith, within k frames (channels * sizeOf f) h, one-more k (channels * sizeOf f))));
+          reads = omega (arith, one-more k step);
+          writes = omega (arith, one-more k (channels * sizeOf f));
           so-far = e;
         }
 
-    pub end : frames ≤ k → out ≡ put out₀ place (takenOf f t first frames channels)
+    pub end : frames ≤ k → out ≡ put out₀ place (framesOut f t s step frames channels)
     end h = l .so-far ∙ rw (le-antisymm (l .turns) h)
+
+-- no frames are none
+pub none : (f : Format) (t : List ℕ) (first frames channels : ℕ) (out₀ : List ℕ) (place : ℕ) → frames ≡ 0
+    → out₀ ≡ put out₀ place (takenOf f t first frames channels)
+unfolding takenOf upTo
+none f t first frames channels out₀ place e = rw e (put-none out₀ place)
+
+-- frames of a track, a record each
+pub taken-frames : (f : Format) (t : List ℕ) (first n channels : ℕ) → framesOut f t (first * 24) 24 n channels ≡ takenOf f t first n channels
+unfolding takenOf framesOut frameOut sentAt
+taken-frames f t first n channels = upTo-same n _ _ (λ k h.
+    let e : first * 24 + k * 24 ≡ (first + k) * 24 = omega arith in rw e)
+
+pub taken : (f : Format) (channels : ℕ) (t : List ℕ) (first frames : ℕ) (out₀ : List ℕ) (place : ℕ) (out : List ℕ) (k at a : ℕ)
+    → Taking f t (first * 24) 24 frames channels out₀ place out k at a → frames ≤ k → out ≡ put out₀ place (takenOf f t first frames channels)
+taken f channels t first frames out₀ place out k at a l h =
+    end f channels t (first * 24) 24 frames out₀ place out k at a l h ∙ rw (taken-frames f t first frames channels)
 
 -- a call for a count that is a literal, or for a type
 pub for-count : (f : Format) (t : List ℕ) (first frames channels n : ℕ) (out₀ out : List ℕ) (at : ℕ) → channels ≡ n
     → out ≡ put out₀ at (takenOf f t first frames n) → out ≡ put out₀ at (takenOf f t first frames channels)
 for-count f t first frames channels n out₀ out at e p = rw e p
+
+pub for-frames : (f : Format) (t : List ℕ) (first frames channels n : ℕ) (out₀ out : List ℕ) (at : ℕ) → channels ≡ n
+    → out ≡ put out₀ at (framesOut f t (first * 24) 24 frames n) → out ≡ put out₀ at (takenOf f t first frames channels)
+for-frames f t first frames channels n out₀ out at e p = p ∙ rw (e, taken-frames f t first frames n)
 
 pub for-type : (g f : Format) (t : List ℕ) (first frames channels : ℕ) (out₀ out : List ℕ) (at : ℕ) → f ≡ g
     → out ≡ put out₀ at (takenOf g t first frames channels) → out ≡ put out₀ at (takenOf f t first frames channels)

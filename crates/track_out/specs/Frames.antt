@@ -15,6 +15,10 @@ sentAt f t at c = sentOf f (sampleAt Signed24 t (at + c * 3))
 unfoldable pub frameOut : Format → List ℕ → ℕ → ℕ → List ℕ
 frameOut f t at channels = upTo channels (λ c. sampleBytes f (sentAt f t at c))
 
+-- n such frames, each step bytes after the one before
+unfoldable pub framesOut : Format → List ℕ → ℕ → ℕ → ℕ → ℕ → List ℕ
+framesOut f t start step n channels = upTo n (λ k. frameOut f t (start + k * step) channels)
+
 -- n of its channels from channel c on
 unfoldable pub runOut : Format → List ℕ → ℕ → ℕ → ℕ → List ℕ
 runOut f t at c n = upTo n (λ i. sampleBytes f (sentAt f t at (c + i)))

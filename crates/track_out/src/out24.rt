@@ -62,20 +62,28 @@ fn one_frame(track: &[u8], at: usize, out: &mut [u8])
     words::put1(&mut out[2..3], b);
 }
 
+// A frame a turn by one store of four bytes: what it writes too much the next frame writes over, so the last is written by itself.
 fn ones(track: &[u8], first: usize, frames: usize, out: &mut [u8], at: usize)
     requires { ⌜ ((first + frames) * 24 ≤ length (now track)) × (at + frames * (1 * 3) ≤ length (now out)) ⌝ }
     ensures { λ _. ⌜ now (out .exit) ≡ put (now (out .entry)) at (takenOf Signed24 (now (track .entry)) first frames 1) ⌝ }
 {
+    if frames == 0 {
+        return;
+    }
+    let last = frames - 1;
     let mut k = 0;
     let mut from = first * 24;
     let mut a = at;
-    while k < frames {
-        let e = a + 3;
-        one_frame(track, from, &mut out[a..e]);
+    while k < last {
+        let w = track::words::get4(track, from);
+        let e = a + 4;
+        words::put4(&mut out[a..e], w);
         from += 24;
-        a = e;
+        a += 3;
         k += 1;
     }
+    let e = a + 3;
+    one_frame(track, from, &mut out[a..e]);
 }
 
 // Two samples as two words.
@@ -89,20 +97,28 @@ fn pair_frame(track: &[u8], at: usize, out: &mut [u8])
     words::put2(&mut out[4..6], b);
 }
 
+// The same as for one channel, by stores of eight bytes.
 fn pairs(track: &[u8], first: usize, frames: usize, out: &mut [u8], at: usize)
     requires { ⌜ ((first + frames) * 24 ≤ length (now track)) × (at + frames * (2 * 3) ≤ length (now out)) ⌝ }
     ensures { λ _. ⌜ now (out .exit) ≡ put (now (out .entry)) at (takenOf Signed24 (now (track .entry)) first frames 2) ⌝ }
 {
+    if frames == 0 {
+        return;
+    }
+    let last = frames - 1;
     let mut k = 0;
     let mut from = first * 24;
     let mut a = at;
-    while k < frames {
-        let e = a + 6;
-        pair_frame(track, from, &mut out[a..e]);
+    while k < last {
+        let w = track::words::get8(track, from);
+        let e = a + 8;
+        track::words::put8(&mut out[a..e], w);
         from += 24;
-        a = e;
+        a += 6;
         k += 1;
     }
+    let e = a + 6;
+    pair_frame(track, from, &mut out[a..e]);
 }
 
 // Eight channels of 24 bits are the record, byte for byte.

@@ -4,12 +4,12 @@ use native.Mathlib.Omega.{arith}
 use lib.ListN.{length}
 use borrow.Author.Needs.{needs}
 use Rattle.samples.specs.declared.Format.the-variants.{Signed24}
-use Rattle.track_out.proofs.Taking.{Taking, start, room, next, end}
+use Rattle.track_out.proofs.Taking.{Taking, start, room, next, taken}
 use Rattle.track_out.proofs.out24.some.Statement.{statement}
 use Rattle.track_out.proofs.out24.some.Tie as tie
 
 abbrev Inv : tie.InvT-loop
-Inv track first frames channels out₀ at step k₀ from₀ a₀ out k from a = Taking Signed24 track first frames channels out₀ at out k from a
+Inv track first frames channels out₀ at step k₀ from₀ a₀ out k from a = Taking Signed24 track (first * 24) 24 frames channels out₀ at out k from a
 
 abbrev μ : tie.MeasureT-loop
 μ track first frames channels out₀ at step k₀ from₀ a₀ out k from a = frames - k
@@ -38,4 +38,4 @@ some-spec =
     (λ c. search needs)
     (λ c. search (next Signed24))
     (λ c. search needs)
-    (λ c. search end))
+    (λ c. search taken))

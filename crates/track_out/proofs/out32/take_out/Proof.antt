@@ -1,7 +1,8 @@
 -- By the count of channels.
+use native.Mathlib.Omega.{arith}
 use borrow.Author.Needs.{needs}
 use Rattle.track.proofs.Laying.{room-for}
-use Rattle.track_out.proofs.Taking.{for-count}
+use Rattle.track_out.proofs.Taking.{for-count, for-frames}
 use Rattle.track_out.proofs.out32.take_out.Statement.{statement}
 use Rattle.track_out.proofs.out32.take_out.Tie as tie
 
@@ -9,10 +10,11 @@ pub take-out-spec : {M : Type 1} → statement M
 take-out-spec =
     tie.close
     (tie.spec
-    (λ c κs. (search needs, search needs, search room-for))
     (λ c. search needs)
-    (λ c. search for-count)
-    (λ c κs. (search needs, search needs, search room-for))
+    (λ c κs. (omega arith, omega arith, search room-for))
+    (λ c. search needs)
+    (λ c. search for-frames)
+    (λ c κs. (search needs, search room-for))
     (λ c. search needs)
     (λ c. search for-count)
     (λ c κs. (search needs, search needs, search room-for))

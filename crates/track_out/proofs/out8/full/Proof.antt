@@ -1,15 +1,15 @@
 -- A frame a turn, each in the part of the data that it is lent.
-use Prim.Native.Nat.{_+_, _-_, _≤_}
+use Prim.Native.Nat.{_+_, _*_, _-_, _≤_}
 use native.Mathlib.Omega.{arith}
 use lib.ListN.{length}
 use borrow.Author.Needs.{needs}
 use Rattle.samples.specs.declared.Format.the-variants.{Unsigned8}
-use Rattle.track_out.proofs.Taking.{Taking, start, room, next, end}
+use Rattle.track_out.proofs.Taking.{Taking, start, room, next, taken}
 use Rattle.track_out.proofs.out8.full.Statement.{statement}
 use Rattle.track_out.proofs.out8.full.Tie as tie
 
 abbrev Inv : tie.InvT-loop
-Inv track first frames out₀ at k₀ from₀ a₀ out k from a = Taking Unsigned8 track first frames 8 out₀ at out k from a
+Inv track first frames out₀ at k₀ from₀ a₀ out k from a = Taking Unsigned8 track (first * 24) 24 frames 8 out₀ at out k from a
 
 abbrev μ : tie.MeasureT-loop
 μ track first frames out₀ at k₀ from₀ a₀ out k from a = frames - k
@@ -35,4 +35,4 @@ full-spec =
     (λ c. search needs)
     (λ c. search (next Unsigned8 8))
     (λ c. search needs)
-    (λ c. search end))
+    (λ c. search taken))
