@@ -86,10 +86,17 @@ def build():
     return ARCHIVE
 
 
-def cargo(package, made):
-    """Builds a Rust package that links an archive; gives the folder of its programs, or none, and what cargo said."""
+def cargo(package, made, place=None):
+    """Builds a Rust package that links an archive; gives the folder of its programs, or none, and what cargo said.
+
+    Where a place of the code is given, cargo is told it, and builds in a folder that no other place's build undoes.
+    """
     target = TARGET / "firmware" / package.name
-    given = dict(os.environ, CARGO_TARGET_DIR=str(target), TASHMIROK_FOLDER=str(made.parent))
+    given = dict(os.environ, TASHMIROK_FOLDER=str(made.parent))
+    if place is not None:
+        target /= f"place-{place}"
+        given["TASHMIROK_PLACE"] = str(place)
+    given["CARGO_TARGET_DIR"] = str(target)
     done = subprocess.run(["cargo", "build", "--release", "--offline", "--locked", "-j1"], cwd=package, env=given,
                           text=True, stdout=subprocess.PIPE, stderr=subprocess.STDOUT, check=False)
     return (target / "release" if done.returncode == 0 else None), done.stdout

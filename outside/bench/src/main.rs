@@ -2,6 +2,7 @@
 
 mod agree;
 mod inputs;
+mod place;
 mod rival;
 mod sides;
 mod timing;
@@ -12,7 +13,7 @@ use timing::{accepted, cleared, copied, cut, refused, Lent, Race, Sweep};
 
 const BITS: [&str; 4] = ["8 bits", "16 bits", "24 bits", "32 bits"];
 /// Every row is timed so often, with all others in between: a machine is disturbed for seconds at a time.
-const PASSES: usize = 20;
+const PASSES: usize = 5;
 
 /// A refusal has no least and no frames.
 struct Row {
@@ -27,24 +28,10 @@ impl Row {
     }
 }
 
-fn title(what: &str) {
-    println!("\n{what:31}|       ns a call        |      ns a frame      |   proved to");
-    println!("{:31}|  proved   rival  least | proved  rival  least | rival  least", "");
-}
-
-fn show(Row { what, frames, race }: Row) {
-    let ratios = [1, 2].map(|other| race.ratio(other).map_or(String::new(), |ratio| format!("{ratio:.2}")));
-    let times = race.times();
-    let shown = |side: usize, per: u16, digits: usize| match times.get(side) {
-        Some(time) if per > 0 => format!("{:.digits$}", time / f64::from(per)),
-        _ => String::new(),
-    };
-    let [calls, each] =
-        [(1, 1), (frames, 2)].map(|(per, digits)| [0, 1, 2].map(|side| shown(side, per, digits)));
-    println!(
-        "{what:31}|{:>8} {:>7} {:>6} |{:>7} {:>6} {:>6} |{:>6} {:>6}",
-        calls[0], calls[1], calls[2], each[0], each[1], each[2], ratios[0], ratios[1],
-    );
+/// One line of JSON: what bench.py gathers of all runs.
+fn tell(table: &str, Row { what, frames, race }: Row) {
+    let ratios: Vec<f64> = [1, 2].into_iter().filter_map(|other| race.ratio(other)).collect();
+    println!("[{table:?}, {what:?}, {frames}, {:?}, {ratios:?}]", race.times());
 }
 
 fn shapes() -> impl Iterator<Item = (Shape, String)> {
@@ -91,18 +78,17 @@ fn refusals() -> Vec<Row> {
     kinds.map(row).into()
 }
 
+/// Told which run of the same program this is: 0, 1 or 2.
 fn main() {
+    let run = std::env::args().nth(1).map_or(0, |number| number.parse().expect("a run's number"));
+    place::keep();
     agree::all();
-    println!("Both sides give the same answers, tracks, packets and counts. One round in twenty is faster than the time shown; a ratio is the middle of all rounds'.");
     let mut tables =
         [("Following, accepted", following()), ("Cutting", cutting()), ("Following, refused", refusals())];
-    for _ in 0..PASSES {
-        tables.iter_mut().flat_map(|(_, rows)| rows).for_each(|row| row.race.run());
+    for pass in 0..PASSES {
+        tables.iter_mut().flat_map(|(_, rows)| rows).for_each(|row| row.race.run(pass, run));
     }
-    for (what, rows) in tables {
-        title(what);
-        rows.into_iter().for_each(show);
+    for (table, rows) in tables {
+        rows.into_iter().for_each(|row| tell(table, row));
     }
-    println!("\nrival: an independent implementation in Rust, optimised and compiled for any processor of this kind, as the proved one is.");
-    println!("least: as many bytes as are written cleared (following) or copied (cutting).");
 }

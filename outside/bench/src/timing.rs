@@ -9,9 +9,11 @@ use crate::sides::{Side, DESK};
 const ROUNDS: usize = 40;
 const NANOSECONDS: f64 = 200_000.0;
 
-/// A load whose place in its page is that of a byte just stored has to wait, so every pass lends bytes at other places of a page.
+/// A load whose place in its page is that of a byte just stored has to wait, so every pass lends bytes at another place of a page:
+/// those of a run are spread over the page, and other runs have the places between.
 const PAGE: usize = 4096;
-const STEP: usize = 208;
+const PASS_STEP: usize = 816;
+const RUN_STEP: usize = 272;
 
 /// What every side is lent: the same bytes at the same places.
 pub struct Lent {
@@ -73,8 +75,8 @@ impl Race {
     }
 
     /// Some rounds in which all take turns.
-    pub fn run(&mut self) {
-        self.lent.at = (self.lent.at + STEP) % PAGE;
+    pub fn run(&mut self, pass: usize, run: usize) {
+        self.lent.at = (pass * PASS_STEP + run * RUN_STEP) % PAGE;
         for _ in 0..ROUNDS {
             for ((sweep, &count), times) in self.sweeps.iter_mut().zip(&self.counts).zip(&mut self.times) {
                 times.push(clock(sweep, count, &mut self.lent));
