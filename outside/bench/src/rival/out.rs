@@ -53,11 +53,68 @@ fn to32(slot: i32) -> [u8; 4] {
     slot.to_le_bytes()
 }
 
-/// A frame's bytes of 24 bits are the first of its record.
+/// A frame's bytes of 24 bits are the first of its record. So many frames as make three words are stored as these.
 #[inline(always)]
-fn out24<const BYTES: usize>(records: &[u8], data: &mut [u8]) {
+fn out24<const BYTES: usize>(records: &[u8], data: &mut [u8], words: impl Fn(&[u8]) -> [u64; 3]) {
+    let each = 24 / BYTES * 24;
+    let (blocks, rest) = records.split_at(records.len() / each * each);
+    let (stored, left) = data.split_at_mut(blocks.len() / 24 * BYTES);
+    for (to, block) in stored.chunks_exact_mut(24).zip(blocks.chunks_exact(each)) {
+        for (part, word) in to.chunks_exact_mut(8).zip(words(block)) {
+            part.copy_from_slice(&word.to_le_bytes());
+        }
+    }
+    bytes24::<BYTES>(rest, left);
+}
+
+#[inline(always)]
+fn bytes24<const BYTES: usize>(records: &[u8], data: &mut [u8]) {
     for (record, frame) in records.chunks_exact(24).zip(data.chunks_exact_mut(BYTES)) {
         frame.copy_from_slice(&record[..BYTES]);
+    }
+}
+
+/// The first words of records, with what is beyond a frame cut off.
+#[inline(always)]
+fn firsts<const COUNT: usize>(block: &[u8], bits: u32) -> [u64; COUNT] {
+    std::array::from_fn(|at| {
+        let word = u64::from_le_bytes(block[24 * at..24 * at + 8].try_into().expect("eight bytes"));
+        word & (u64::MAX >> (64 - bits))
+    })
+}
+
+#[inline(always)]
+fn one24(block: &[u8]) -> [u64; 3] {
+    let [a, b, c, d, e, f, g, h] = firsts(block, 24);
+    [a | b << 24 | c << 48, c >> 16 | d << 8 | e << 32 | f << 56, f >> 8 | g << 16 | h << 40]
+}
+
+#[inline(always)]
+fn two24(block: &[u8]) -> [u64; 3] {
+    let [a, b, c, d] = firsts(block, 48);
+    [a | b << 48, b >> 16 | c << 32, c >> 32 | d << 16]
+}
+
+/// The two slots in a word's lowest six bytes, as samples of 32 bits in a word.
+#[inline(always)]
+fn pair(word: u64) -> [u8; 8] {
+    (word << 8 & 0xFFFF_FF00 | word << 16 & 0xFFFF_FF00_0000_0000).to_le_bytes()
+}
+
+/// Pairs of samples, each by one load and one store.
+#[inline(always)]
+fn pairs<'a>(words: impl Iterator<Item = &'a [u8]>, data: &mut [u8]) {
+    for (to, word) in data.chunks_exact_mut(8).zip(words) {
+        to.copy_from_slice(&pair(u64::from_le_bytes(word.try_into().expect("eight bytes"))));
+    }
+}
+
+/// Eight channels are pairs side by side through all records; after the last one the records end.
+#[inline(always)]
+fn eight32(records: &[u8], data: &mut [u8]) {
+    pairs(records.windows(8).step_by(6), data);
+    if let (Some(to), Some(word)) = (data.last_chunk_mut(), records.last_chunk()) {
+        *to = pair(u64::from_le_bytes(*word) >> 16);
     }
 }
 
@@ -78,15 +135,19 @@ macro_rules! by_channels {
 }
 
 pub fn take_out(format: u8, channels: u16, records: &[u8], data: &mut [u8]) {
-    match format {
-        0 => by_channels!(channels, records, data, 1, to8),
-        1 => by_channels!(channels, records, data, 2, to16),
-        2 if channels == 8 => data.copy_from_slice(records),
-        2 if channels == 2 => out24::<6>(records, data),
-        2 => by_channels!(channels, records, data, 3, |slot| {
-            let [_, low, middle, high] = slot.to_le_bytes();
-            [low, middle, high]
-        }),
+    match (format, channels) {
+        (0, _) => by_channels!(channels, records, data, 1, to8),
+        (1, _) => by_channels!(channels, records, data, 2, to16),
+        (2, 1) => out24::<3>(records, data, one24),
+        (2, 2) => out24::<6>(records, data, two24),
+        (2, 3) => bytes24::<9>(records, data),
+        (2, 4) => bytes24::<12>(records, data),
+        (2, 5) => bytes24::<15>(records, data),
+        (2, 6) => bytes24::<18>(records, data),
+        (2, 7) => bytes24::<21>(records, data),
+        (2, _) => data.copy_from_slice(records),
+        (_, 2) => pairs(records.chunks_exact(24).map(|record| &record[..8]), data),
+        (_, 8) => eight32(records, data),
         _ => by_channels!(channels, records, data, 4, to32),
     }
 }
