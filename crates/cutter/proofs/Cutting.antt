@@ -6,6 +6,7 @@ use native.Mathlib.Nat.{mul-assoc, le-of-eq}
 use native.Mathlib.Omega.{arith}
 use lib.ListN.{length}
 use Rattle.lists.specs.Lists.{put}
+use Rattle.lists.specs.Rules.{AllHold}
 use Rattle.lists.proofs.Lists.{put-none}
 use Rattle.answers.specs.declared.Made.{Made}
 use Rattle.answers.specs.declared.Made.the-variants.{Done}
@@ -16,11 +17,13 @@ use Rattle.samples.specs.declared.Indexed.{Indexed}
 use Rattle.samples.specs.declared.Indexed.the-variants.{Known, Unknown}
 use Rattle.samples.specs.Formats.{indexed, sizeOf, sizeKnown}
 use Rattle.wire.specs.declared.header.Header.{Header}
+use Rattle.wire.specs.Names.{nameOf, measured}
 use Rattle.wire.specs.Header.{dataSize}
 use Rattle.wire.specs.Write.{packetOf, GoodForm}
+use Rattle.wire.proofs.Names.{good-measured}
 use Rattle.track.specs.Records.{recordsHeld, takenOf}
 use Rattle.cutter.specs.Schedule.{scheduleOf}
-use Rattle.cutter.specs.Cut.{cutSchedule, packetHeader, takenKnown, cutPacket, cutAnswer, cutOf, cutOutput}
+use Rattle.cutter.specs.Cut.{cutSchedule, packetHeader, takenKnown, cutPacket, cutAnswer, cutOf, cutOutput, cutRules}
 use Rattle.cutter.proofs.Scheduling.{within-track}
 use Rattle.cutter.proofs.Exactly.{cut-done-exactly, done-gives, done-output, refused-gives, refused-output}
 
@@ -64,31 +67,38 @@ module _ (h : Header) (track : List ℕ) (k : ℕ) (out : List ℕ) (a : Made) (
       let o : a ≡ Done → ⊥ = λ d. z (q ∙ ap numberMade d) in
       (sym (refused-gives h track k out a e o), sym (refused-output h track k out a e o))
 
-  module _ (z : n ≡ 0) (t : ℕ) (p : t ≡ recordsHeld track) (hk : Header) (m : hk ≡ packetHeader h (scheduleOf t (h .frames)) k)
-      (first : ℕ) (f : first ≡ k * h .frames) where
+  module _ (z : n ≡ 0) where
     done : a ≡ Done
     done = made-told a Done (sym q ∙ z)
 
-    is-packet : hk ≡ packetHeader h (cutSchedule h track) k
-    is-packet = m ∙ rw p
-
     module _ (sixteen : length (h .name) ≡ 16) where
-      pub good-form : GoodForm hk
-      good-form =
-          let r = cut-done-exactly h (le-of-eq sixteen) track k (length out) .0 (sym e ∙ done) in
-          rw is-packet (r .1 .1 .1 .0)
+      all-hold : AllHold (cutRules h track k (length out))
+      all-hold = cut-done-exactly h (le-of-eq sixteen) track k (length out) .0 (sym e ∙ done)
 
-      pub in-range : (hk .channels ≤ 8) × (first + hk .frames ≤ recordsHeld track) × (28 + dataSize hk ≤ length out)
-      in-range =
-          let r = cut-done-exactly h (le-of-eq sixteen) track k (length out) .0 (sym e ∙ done) in
-          let N = r .0 .formed .frames-few .0 in
-          rw (is-packet, f) (r .0 .channels-few, within-track (recordsHeld track) (h .frames) N k (r .1 .1 .0 .below), r .1 .1 .1 .1 .1 .1 .0)
+      -- what was measured of the name are its characters
+      pub name-measured : (name : List ℕ) → name ≡ h .name → (named : ℕ) → named ≡ measured name → named ≡ length (nameOf name)
+      name-measured name p named m = m ∙ good-measured name (rw p (all-hold .0 .formed .named))
 
-    pub written : (o : List ℕ) (size : ℕ) → size ≡ dataSize hk
-        → o ≡ put out 0 (packetOf hk (takenKnown (indexed (hk .format)) track first (hk .frames) (hk .channels)))
-        → (record { answer = a; length = 28 + size } ≡ cutOf h track k out) × (o ≡ cutOutput h track k out)
-    unfolding cutPacket
-    written o size u w = (
-      ap (λ (s : ℕ). record { answer = a; length = 28 + s }) (u ∙ rw is-packet) ∙ sym (done-gives h track k out a e done),
-      w ∙ rw (is-packet, f) (sym (done-output h track k out a e done)),
-    )
+    module _ (t : ℕ) (p : t ≡ recordsHeld track) (hk : Header) (m : hk ≡ packetHeader h (scheduleOf t (h .frames)) k)
+        (first : ℕ) (f : first ≡ k * h .frames) where
+      is-packet : hk ≡ packetHeader h (cutSchedule h track) k
+      is-packet = m ∙ rw p
+
+      module _ (sixteen : length (h .name) ≡ 16) where
+        pub good-form : GoodForm hk
+        good-form = rw is-packet (all-hold sixteen .1 .1 .1 .0)
+
+        pub in-range : (hk .channels ≤ 8) × (first + hk .frames ≤ recordsHeld track) × (28 + dataSize hk ≤ length out)
+        in-range =
+            let r = all-hold sixteen in
+            let N = r .0 .formed .frames-few .0 in
+            rw (is-packet, f) (r .0 .channels-few, within-track (recordsHeld track) (h .frames) N k (r .1 .1 .0 .below), r .1 .1 .1 .1 .1 .1 .0)
+
+      pub written : (o : List ℕ) (size : ℕ) → size ≡ dataSize hk
+          → o ≡ put out 0 (packetOf hk (takenKnown (indexed (hk .format)) track first (hk .frames) (hk .channels)))
+          → (record { answer = a; length = 28 + size } ≡ cutOf h track k out) × (o ≡ cutOutput h track k out)
+      unfolding cutPacket
+      written o size u w = (
+        ap (λ (s : ℕ). record { answer = a; length = 28 + s }) (u ∙ rw is-packet) ∙ sym (done-gives h track k out a e done),
+        w ∙ rw (is-packet, f) (sym (done-output h track k out a e done)),
+      )

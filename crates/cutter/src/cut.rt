@@ -4,6 +4,7 @@ ghost use Prim.Native.Nat.{_+_, _≤_};
 ghost use lib.ListN.{length};
 ghost use Rattle.lists.specs.Lists.{put};
 ghost use Rattle.samples.specs.Formats.{indexed};
+ghost use Rattle.wire.specs.Names.{nameOf, measured};
 ghost use Rattle.wire.specs.Header.{dataSize};
 ghost use Rattle.wire.specs.Write.{GoodForm, packetOf};
 ghost use Rattle.track.specs.Records.{recordsHeld};
@@ -19,12 +20,12 @@ pub struct CutAnswer {
     pub length: usize,
 }
 
-// The header's name comes as a slice beside it, here and below, as the packet writer takes it.
-fn bad_cut(name: &[u8], h: Header) -> bool
-    requires { ⌜ now name ≡ h .name ⌝ }
+// The name comes measured, here and below, as the packet writer takes it.
+fn bad_cut(named: usize, h: Header) -> bool
+    requires { ⌜ named ≡ measured (h .name) ⌝ }
     ensures { λ r. ⌜ r ≡ badCut h ⌝ }
 {
-    if wire::write::bad_form(name, h) {
+    if wire::write::bad_form(named, h) {
         return true;
     }
     if h.channels > 8 {
@@ -52,11 +53,11 @@ fn packet_header(h: Header, frames: usize, k: u32) -> Header
 }
 
 // All rows in order. Of the packet writer's only the room can still refuse: N and the track bound the packet.
-fn refusal(name: &[u8], h: Header, track: &[u8], k: u32, room: usize) -> Made
-    requires { ⌜ now name ≡ h .name ⌝ }
+fn refusal(named: usize, h: Header, track: &[u8], k: u32, room: usize) -> Made
+    requires { ⌜ named ≡ measured (h .name) ⌝ }
     ensures { λ r. ⌜ r ≡ cutAnswer h (now (track .entry)) k room ⌝ }
 {
-    if bad_cut(name, h) {
+    if bad_cut(named, h) {
         return Made::Form;
     }
     if track.len() % 24 != 0 {
@@ -93,13 +94,14 @@ fn take_samples(h: Header, track: &[u8], first: usize, out: &mut [u8])
 }
 
 // Straight into the output, in one pass.
-fn emit(name: &[u8], h: Header, track: &[u8], first: usize, out: &mut [u8])
+fn emit(name: &[u8], named: usize, h: Header, track: &[u8], first: usize, out: &mut [u8])
     requires { ⌜ now name ≡ h .name ⌝ }
+    requires { ⌜ named ≡ length (nameOf (now name)) ⌝ }
     requires { ⌜ GoodForm h ⌝ }
     requires { ⌜ (h .channels ≤ 8) × (first + h .frames ≤ recordsHeld (now track)) × (28 + dataSize h ≤ length (now out)) ⌝ }
     ensures { λ _. ⌜ now (out .exit) ≡ put (now (out .entry)) 0 (packetOf h (takenKnown (indexed (h .format)) (now (track .entry)) first (h .frames) (h .channels))) ⌝ }
 {
-    wire::write::header(name, h, &mut out[0..28]);
+    wire::write::header(name, named, h, &mut out[0..28]);
     take_samples(h, track, first, out);
 }
 
@@ -109,7 +111,8 @@ pub fn cut_named(name: &[u8], h: Header, track: &[u8], k: u32, out: &mut [u8]) -
     ensures { λ r. ⌜ r ≡ cutOf h (now (track .entry)) k (now (out .entry)) ⌝ }
     ensures { λ _. ⌜ now (out .exit) ≡ cutOutput h (now (track .entry)) k (now (out .entry)) ⌝ }
 {
-    let a = refusal(name, h, track, k, out.len());
+    let named = wire::name::measure(name);
+    let a = refusal(named, h, track, k, out.len());
     if answers::number_made(a) != 0 {
         return CutAnswer {
             answer: a,
@@ -117,7 +120,8 @@ pub fn cut_named(name: &[u8], h: Header, track: &[u8], k: u32, out: &mut [u8]) -
         };
     }
     let hk = packet_header(h, track::held(track), k);
-    emit(name, hk, track, crate::schedule::first(h.frames, k), out);
+    let from = crate::schedule::first(h.frames, k);
+    emit(name, named, hk, track, from, out);
     CutAnswer {
         answer: a,
         length: 28 + wire::header::data_size(hk),

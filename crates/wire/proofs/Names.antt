@@ -1,7 +1,7 @@
 -- The laws of names.
 use mathlib.Core.Path.{_≡_, refl, sym, ap, _∙_}
 use mathlib.Core.Logic.{_↔_}
-use mathlib.Core.Bool.{true, false}
+use mathlib.Core.Bool.{true, false, not}
 use mathlib.Core.List.{List, [], _∷_, _++_}
 use Prim.Native.Nat.{ℕ, zero, suc, _+_, _-_, _≤_, _<_, zero-le, suc-le-suc}
 use native.Mathlib.Nat.{suc-ne-zero, le-of-suc-le-suc, not-suc-le-zero, min-le-right, le-of-eq}
@@ -13,7 +13,7 @@ use borrow.Author.Tests.{le-ltb, ltb-false, eq-eqb, ne-eqb, eqb-true, eqb-false}
 use Rattle.bytes.specs.Bytes.{indexOf, indexAfter}
 use Rattle.lists.specs.Tables.{choose}
 use Rattle.lists.proofs.Tables.{by-test, true-false}
-use Rattle.wire.specs.Names.{nameOf, printable, goodName, charactersOf, keptName, sameBytes, sameName, GoodName}
+use Rattle.wire.specs.Names.{nameOf, printable, goodName, measured, charactersOf, keptName, sameBytes, sameName, GoodName}
 
 -- ---- a name, byte by byte
 
@@ -133,6 +133,11 @@ module _ (n : List ℕ) where
       let s = g .some in
       rw (ne-eqb (length (nameOf n)) 0 (λ z. omega arith)) (each-printable (nameOf n) (g .each))
 
+  -- what is measured of a name that keeps the rule are its characters
+  pub good-measured : GoodName n → measured n ≡ length (nameOf n)
+  unfolding measured
+  good-measured g = rw (by-good g)
+
   pub good-exactly : length n ≤ 16 → goodName n ≡ true ↔ GoodName n
   good-exactly h = (good-by h, by-good)
 
@@ -158,19 +163,34 @@ stops (suc x ∷ xs) =
     by-test (λ b. choose b false (printable (nameOf xs)) ≡ eqb (getD (suc x ∷ xs) (choose b 0 (suc (charactersOf xs))) 0) 0) (ltb 0x7E (suc x))
     (λ u. sym (eqb·suc-zero x)) (λ u. stops xs)))
 
-pub good-counted : (n : List ℕ) → goodName n ≡ choose (eqb (charactersOf n) 0) false (eqb (getD n (charactersOf n) 0) 0)
-unfolding goodName charactersOf
-good-counted [] = rw name-nil
-good-counted (zero ∷ xs) = rw (name-stop xs)
-good-counted (suc x ∷ xs) =
-    rw (stops (suc x ∷ xs), name-go x xs, eqb·suc-zero (length (nameOf xs)))
-    (by-test (λ b. eqb (getD (suc x ∷ xs) (choose b 0 (choose (ltb 0x7E (suc x)) 0 (suc (charactersOf xs)))) 0) 0
-    ≡ choose (eqb (choose b 0 (choose (ltb 0x7E (suc x)) 0 (suc (charactersOf xs)))) 0) false (eqb (getD (suc x ∷ xs) (choose b 0 (choose (ltb 0x7E (suc x)) 0 (suc (charactersOf xs)))) 0) 0)) (ltb (suc x) 0x20)
-    (λ t. eqb·suc-zero x)
-    (λ t.
-    by-test (λ b. eqb (getD (suc x ∷ xs) (choose b 0 (suc (charactersOf xs))) 0) 0
-    ≡ choose (eqb (choose b 0 (suc (charactersOf xs))) 0) false (eqb (getD (suc x ∷ xs) (choose b 0 (suc (charactersOf xs))) 0) 0)) (ltb 0x7E (suc x))
-    (λ u. eqb·suc-zero x) (λ u. rw (eqb·suc-zero (charactersOf xs)))))
+-- then those at the front are all
+counted : (n : List ℕ) → printable (nameOf n) ≡ true → length (nameOf n) ≡ charactersOf n
+unfolding charactersOf
+counted [] e = rw name-nil
+counted (zero ∷ xs) e = rw (name-stop xs)
+counted (suc x ∷ xs) e =
+    let p = printable-first (suc x) (nameOf xs) (rw (name-go x xs) at e) in
+    rw (name-go x xs, le-ltb (suc x) 0x20 (p .0), le-ltb 0x7E (suc x) (p .1)) (ap suc (counted xs (p .2)))
+
+module _ (n : List ℕ) where
+  pub measured-counted : measured n ≡ choose (eqb (getD n (charactersOf n) 0) 0) (charactersOf n) 0
+  unfolding measured goodName
+  measured-counted =
+      rw (← stops n)
+      (by-test (λ b. choose (choose (eqb (length (nameOf n)) 0) false b) (length (nameOf n)) 0 ≡ choose b (charactersOf n) 0) (printable (nameOf n))
+      (λ t.
+      by-test (λ b. choose (choose b false true) (length (nameOf n)) 0 ≡ charactersOf n) (eqb (length (nameOf n)) 0)
+      (λ u. sym (eqb-true _ _ u) ∙ counted n t) (λ u. counted n t))
+      (λ t. by-test (λ b. choose (choose b false false) (length (nameOf n)) 0 ≡ 0) (eqb (length (nameOf n)) 0) (λ u. refl) (λ u. refl)))
+
+  -- a name is good exactly where something is measured
+  pub measured-good : (k : ℕ) → k ≡ measured n → not (eqb k 0) ≡ goodName n
+  unfolding measured goodName
+  measured-good k e =
+      rw e
+      (by-test (λ b. not (eqb (choose (choose b false (printable (nameOf n))) (length (nameOf n)) 0) 0) ≡ choose b false (printable (nameOf n))) (eqb (length (nameOf n)) 0)
+      (λ t. refl)
+      (λ t. by-test (λ b. not (eqb (choose b (length (nameOf n)) 0) 0) ≡ b) (printable (nameOf n)) (λ u. rw t) (λ u. refl)))
 
 -- ---- zeros after the name
 

@@ -20,6 +20,10 @@ printable (x ∷ xs) = choose (ltb x 0x20) false (choose (ltb 0x7E x) false (pri
 unfoldable pub goodName : List ℕ → Bool
 goodName n = choose (eqb (length (nameOf n)) 0) false (printable (nameOf n))
 
+-- how many characters a good name has; 0 where the name breaks the rule
+unfoldable pub measured : List ℕ → ℕ
+measured n = choose (goodName n) (length (nameOf n)) 0
+
 -- the characters that stand at the front, a name's or not: the bytes before the first that no name has
 unfoldable pub charactersOf : List ℕ → ℕ
 charactersOf [] = 0

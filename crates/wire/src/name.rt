@@ -3,7 +3,7 @@ ghost use mathlib.Core.Path.{_≡_};
 ghost use mathlib.Core.List.{_++_};
 ghost use Prim.Native.Nat.{_+_, _-_, _*_, _/_, _%_, _^_, _≤_};
 ghost use lib.ListN.{length};
-ghost use Rattle.wire.specs.Names.{nameOf, charactersOf, goodName, keptName, sameBytes, sameName};
+ghost use Rattle.wire.specs.Names.{nameOf, charactersOf, goodName, measured, keptName, sameBytes, sameName};
 ghost use Rattle.wire.specs.Header.{eightAt};
 ghost use Rattle.wire.specs.Write.{four};
 
@@ -31,15 +31,21 @@ fn characters(n: &[u8]) -> usize
     i
 }
 
-// A name is good if it has a character, and a zero or the end comes after the characters.
+// How many characters a good name has, or 0: a name is good if it has one, and a zero or the end comes after them.
+pub fn measure(n: &[u8]) -> usize
+    ensures { λ r. ⌜ r ≡ measured (now (n .entry)) ⌝ }
+{
+    let k = characters(n);
+    if lists::at(n, k) == 0 {
+        return k;
+    }
+    0
+}
+
 pub fn good(n: &[u8]) -> bool
     ensures { λ r. ⌜ r ≡ goodName (now (n .entry)) ⌝ }
 {
-    let k = characters(n);
-    if k == 0 {
-        return false;
-    }
-    lists::at(n, k) == 0
+    measure(n) != 0
 }
 
 // The eight bytes from `i` on as a number, by two reads of four, which become one.
@@ -82,13 +88,13 @@ fn put_eight(w: u64, out: &mut [u8])
     crate::write::place(&high, out, 4);
 }
 
-// The name with zeros after it, into the bytes that are lent, as two words: a copy of so many bytes would cost a loop. Both are
-// read before one is stored, since nothing tells the compiler that the slices are apart.
-pub(crate) fn keep(n: &[u8], out: &mut [u8])
+// The name of `k` characters with zeros after it, into the bytes that are lent, as two words: a copy of so many bytes would cost a
+// loop. Both are read before one is stored, since nothing tells the compiler that the slices are apart.
+pub(crate) fn keep(n: &[u8], k: usize, out: &mut [u8])
     requires { ⌜ (length (now n) ≡ 16) × (length (now out) ≡ 16) ⌝ }
+    requires { ⌜ k ≡ length (nameOf (now n)) ⌝ }
     ensures { λ _. ⌜ now (out .exit) ≡ keptName (now (n .entry)) ⌝ }
 {
-    let k = count(n);
     let first = lowest(eight_at(n, 0), k);
     let second = lowest(eight_at(n, 8), past_eight(k));
     put_eight(first, &mut out[0..8]);
@@ -100,7 +106,7 @@ pub fn kept(n: &[u8]) -> [u8; 16]
     ensures { λ r. ⌜ r ≡ keptName (now (n .entry)) ⌝ }
 {
     let mut name = [0u8; 16];
-    keep(n, &mut name);
+    keep(n, count(n), &mut name);
     name
 }
 

@@ -5,6 +5,7 @@ ghost use lib.ListN.{length};
 ghost use Rattle.lists.specs.Tables.{first};
 ghost use Rattle.answers.specs.declared.Made.the-variants.{Done};
 ghost use Rattle.lists.specs.Lists.{put};
+ghost use Rattle.wire.specs.Names.{nameOf, measured};
 ghost use Rattle.wire.specs.Write.{leadOf, headerBytes, packetOf, GoodForm, badForm, writeRows, writeOf, outputOf};
 use crate::header::Header;
 use answers::Made;
@@ -15,9 +16,9 @@ pub struct Written {
     pub length: usize,
 }
 
-// The header's name comes as a slice beside it: a name copied out of a struct costs much.
-pub fn bad_form(name: &[u8], h: Header) -> bool
-    requires { ⌜ now name ≡ h .name ⌝ }
+// The name comes measured, here and below: it is measured once for the checks and the writing.
+pub fn bad_form(named: usize, h: Header) -> bool
+    requires { ⌜ named ≡ measured (h .name) ⌝ }
     ensures { λ r. ⌜ r ≡ badForm h ⌝ }
 {
     if h.rate > 20 {
@@ -32,18 +33,18 @@ pub fn bad_form(name: &[u8], h: Header) -> bool
     if lists::is_outside(h.channels, 256) {
         return true;
     }
-    if !crate::name::good(name) {
+    if named == 0 {
         return true;
     }
     false
 }
 
 // By the header, the bytes of data given and the room for the packet. After row 22 what is given is small, so the sum fits.
-fn refusal(h: Header, given: usize, room: usize) -> Made
+fn refusal(named: usize, h: Header, given: usize, room: usize) -> Made
+    requires { ⌜ named ≡ measured (h .name) ⌝ }
     ensures { λ r. ⌜ r ≡ first Done (writeRows h given room) ⌝ }
 {
-    let name = h.name;
-    if bad_form(&name, h) {
+    if bad_form(named, h) {
         return Made::Form;
     }
     let size = crate::header::data_size(h);
@@ -68,22 +69,25 @@ pub fn place(src: &[u8], out: &mut [u8], at: usize)
     bytes::copy(src, &mut out[at..e]);
 }
 
-// The 28 bytes, of the raw bytes 4 to 7, a name and a counter.
-pub fn lead(b4: u8, b5: u8, b6: u8, b7: u8, name: &[u8], counter: u32, out: &mut [u8])
+// The 28 bytes, of the raw bytes 4 to 7, a name of `named` characters and a counter.
+pub fn lead(b4: u8, b5: u8, b6: u8, b7: u8, name: &[u8], named: usize, counter: u32, out: &mut [u8])
     requires { ⌜ length (now name) ≡ 16 ⌝ }
+    requires { ⌜ named ≡ length (nameOf (now name)) ⌝ }
     requires { ⌜ length (now out) ≡ 28 ⌝ }
     ensures { λ _. ⌜ now (out .exit) ≡ leadOf b4 b5 b6 b7 (now (name .entry)) counter ⌝ }
 {
     let mark = [0x56u8, 0x42, 0x41, 0x4e, b4, b5, b6, b7];
     let count = crate::bits::split_counter(counter);
     place(&mark, out, 0);
-    crate::name::keep(name, &mut out[8..24]);
+    crate::name::keep(name, named, &mut out[8..24]);
     place(&count, out, 24);
 }
 
-// The 28 bytes of a header: audio, PCM, the reserved bit zero.
-pub fn header(name: &[u8], h: Header, out: &mut [u8])
+// The 28 bytes of a header: audio, PCM, the reserved bit zero. Its name comes as a slice beside it: one copied out of a struct
+// costs much.
+pub fn header(name: &[u8], named: usize, h: Header, out: &mut [u8])
     requires { ⌜ now name ≡ h .name ⌝ }
+    requires { ⌜ named ≡ length (nameOf (now name)) ⌝ }
     requires { ⌜ (h .rate < 32) × (h .format < 8) ⌝ }
     requires { ⌜ (1 ≤ h .frames) × (h .frames ≤ 256) ⌝ }
     requires { ⌜ (1 ≤ h .channels) × (h .channels ≤ 256) ⌝ }
@@ -94,17 +98,18 @@ pub fn header(name: &[u8], h: Header, out: &mut [u8])
     let b5 = (h.frames - 1) as u8;
     let b6 = (h.channels - 1) as u8;
     let b7 = crate::bits::join_seven(h.format, 0, 0);
-    lead(b4, b5, b6, b7, name, h.counter, out);
+    lead(b4, b5, b6, b7, name, named, h.counter, out);
 }
 
 // A packet of good form, where there is room.
-fn emit(h: Header, samples: &[u8], out: &mut [u8])
+fn emit(name: &[u8], named: usize, h: Header, samples: &[u8], out: &mut [u8])
+    requires { ⌜ now name ≡ h .name ⌝ }
+    requires { ⌜ named ≡ length (nameOf (now name)) ⌝ }
     requires { ⌜ GoodForm h ⌝ }
     requires { ⌜ 28 + length (now samples) ≤ length (now out) ⌝ }
     ensures { λ _. ⌜ now (out .exit) ≡ put (now (out .entry)) 0 (packetOf h (now (samples .entry))) ⌝ }
 {
-    let name = h.name;
-    header(&name, h, &mut out[0..28]);
+    header(name, named, h, &mut out[0..28]);
     place(samples, out, 28);
 }
 
@@ -113,14 +118,16 @@ pub fn write(h: Header, samples: &[u8], out: &mut [u8]) -> Written
     ensures { λ r. ⌜ r ≡ writeOf h (now (samples .entry)) (now (out .entry)) ⌝ }
     ensures { λ _. ⌜ now (out .exit) ≡ outputOf h (now (samples .entry)) (now (out .entry)) ⌝ }
 {
-    let a = refusal(h, samples.len(), out.len());
+    let name = h.name;
+    let named = crate::name::measure(&name);
+    let a = refusal(named, h, samples.len(), out.len());
     if answers::number_made(a) != 0 {
         return Written {
             answer: a,
             length: 0,
         };
     }
-    emit(h, samples, out);
+    emit(&name, named, h, samples, out);
     Written {
         answer: a,
         length: 28 + samples.len(),

@@ -14,6 +14,6 @@ bad-cut-spec =
     (λ c κs. search needs)
     (λ c. search tests depth 8)
     (λ c. search tests depth 8)
-    (λ c κs. search (formed-few (c .before .before .before .before .before .args .h)))
+    (λ c κs. search (formed-few (c .before .before .before .before .args .h)))
     (λ c. search tests depth 8)
     (λ c. search tests depth 8))

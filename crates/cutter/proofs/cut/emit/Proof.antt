@@ -11,7 +11,7 @@ emit-spec =
     (λ c. search needs)
     (λ c. search needs)
     (λ c. search needs)
-    (λ c κs. search needs)
+    (λ c κs. (search needs, (search needs, search needs)))
     (λ c κs. search needs)
     (λ c. search needs)
     (λ c. search packed))

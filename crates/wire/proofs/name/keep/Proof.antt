@@ -39,7 +39,6 @@ keep-spec =
     (λ c κs. search needs)
     (λ c κs. search needs)
     (λ c κs. search needs)
-    (λ c κs. search needs)
     (λ c. search needs)
     (λ c. search needs)
     (λ c. search needs)
@@ -50,5 +49,5 @@ keep-spec =
     (λ c κs. search needs)
     (λ c. search needs)
     (λ c.
-    let o = c .before .before .before .before .before .before .before .before .before .before .before .before .before .before .before in
-    search (words (o .before .args .n .now) (o .before .args .out .now) (o .before .pre) (λ j. o .shared-slice-known .given j .fits))))
+    let o = c .before .before .before .before .before .before .before .before .before .before .before .before .before .before in
+    search (words (o .before .args .n .now) (o .before .args .out .now) (o .before .pre .0) (λ j. o .shared-slice-known .given j .fits))))

@@ -13,7 +13,9 @@ use Rattle.answers.specs.declared.Made.the-variants.{Done}
 use Rattle.answers.specs.Numbers.{numberMade}
 use Rattle.answers.proofs.Numbers.{made-told}
 use Rattle.wire.specs.declared.header.Header.{Header}
+use Rattle.wire.specs.Names.{nameOf, measured}
 use Rattle.wire.specs.Write.{packetOf, writeRows, writeOf, outputOf, GoodForm}
+use Rattle.wire.proofs.Names.{good-measured}
 use Rattle.wire.proofs.Writing.{done-exactly}
 use Rattle.wire.proofs.write.write.Statement.{statement}
 use Rattle.wire.proofs.write.write.Tie as tie
@@ -26,10 +28,11 @@ module _ (h : Header) (samples out : List ℕ) (a : Made) (n : ℕ) (q : n ≡ n
       let t = ne-eqb (numberMade a) 0 (λ s. z (q ∙ s)) in
       (rw (← e, t), rw (← e, t))
 
-  allowed : length (h .name) ≡ 16 → n ≡ 0 → GoodForm h × (28 + length samples ≤ length out)
-  allowed l z =
+  allowed : length (h .name) ≡ 16 → n ≡ 0 → (named : ℕ) → named ≡ measured (h .name)
+      → (named ≡ length (nameOf (h .name))) × (GoodForm h × (28 + length samples ≤ length out))
+  allowed l z named m =
       let r = done-exactly h (le-of-eq l) (length samples) (length out) .0 (sym e ∙ made-told a Done (sym q ∙ z)) in
-      (r .0, r .1 .1 .1 .0)
+      (m ∙ good-measured (h .name) (r .0 .named), (r .0, r .1 .1 .1 .0))
 
   written : (o : List ℕ) → n ≡ 0 → o ≡ put out 0 (packetOf h samples)
       → (record { answer = a; length = 28 + length samples } ≡ writeOf h samples out) × (o ≡ outputOf h samples out)
@@ -38,33 +41,29 @@ module _ (h : Header) (samples out : List ℕ) (a : Made) (n : ℕ) (q : n ≡ n
       let t = eq-eqb (numberMade a) 0 (sym q ∙ z) in
       (rw (← e, t), rw (← e, t) p)
 
-asks : tie.Need-emit-requires
-asks c κs =
-    let a = c .before .before .before .before .before .before .args in
-    let l : length (a .h .name) ≡ 16 = search needs in
-    allowed (a .h) (a .samples .now) (a .out .now) _ _ (c .before .before .number-made .ensures) (c .before .before .before .refusal .ensures) l
-    (c .before .if1 .left)
-
-refuses : tie.Need-returns
-refuses c =
-    let a = c .before .before .before .before .before .args in
-    refused (a .h) (a .samples .now) (a .out .now) _ _ (c .before .number-made .ensures) (c .before .before .refusal .ensures) (c .if1 .taken)
-
-writes : tie.Need-returns-2
-writes c =
-    let b = c .before .before .before .before in
-    let a = b .before .before .before .before .before .args in
-    written (a .h) (a .samples .now) (a .out .now) _ _ (b .before .number-made .ensures) (b .before .before .refusal .ensures) _ (b .if1 .left)
-    (c .before .before .emit .ensures)
+sixteen : (c : tie.Start) → length (c .args .h .name) ≡ 16
+sixteen c = search needs
 
 pub write-spec : {M : Type 1} → statement M
 write-spec =
     tie.close
     (tie.spec
+    (λ c. search needs)
     (λ c κs. search needs)
     (λ c κs. search needs)
-    refuses
-    asks
+    (λ c κs. search needs)
+    (λ c. refused _ _ _ _ _ (c .before .number-made .ensures) (c .before .before .refusal .ensures) (c .if1 .taken))
+    (λ c. search needs)
+    (λ c κs.
+    let b = c .before .before .before in
+    let o = b .before .before .before .before .before .before .before in (
+      search needs,
+      allowed _ (o .args .samples .now) (o .args .out .now) _ _ (b .number-made .ensures) (b .before .refusal .ensures) (sixteen o)
+          (c .before .before .if1 .left) _ (b .before .before .measure .ensures),
+    ))
     (λ c. search needs)
     (λ c. search needs)
-    writes)
+    (λ c.
+    let e = c .before .before in
+    let b = e .before .before .before .before in
+    written _ _ _ _ _ (b .number-made .ensures) (b .before .refusal .ensures) _ (e .before .before .before .if1 .left) (e .emit .ensures)))
