@@ -1,13 +1,13 @@
 -- Pairs of samples of 32 bits, each from one word of the track.
-use mathlib.Core.Path.{_≡_, refl, sym, ap, _∙_}
-use mathlib.Core.List.{List}
+use mathlib.Core.Path.{_≡_, sym, ap, _∙_}
+use mathlib.Core.List.{List, _++_}
 use Prim.Native.Nat.{ℕ, _+_, _-_, _*_, _/_, _%_, _≤_, _<_}
-use native.Mathlib.Nat.{mul-assoc}
+use native.Mathlib.Nat.{mul-assoc, add-mul, one-mul, add-assoc}
 use native.Mathlib.Omega.{arith}
 use lib.ListN.{length}
 use borrow.Rule.Slice.PartMut.{putMid}
 use Rattle.lists.specs.Lists.{byte, put, upTo}
-use Rattle.lists.proofs.Lists.{upTo-same, upTo-flat}
+use Rattle.lists.proofs.Lists.{one-more, put-more, lent, upTo-same, upTo-more, upTo-flat}
 use Rattle.samples.specs.declared.Format.{Format}
 use Rattle.samples.specs.declared.Format.the-variants.{Signed24, Signed32}
 use Rattle.samples.specs.Wire.{sentOf}
@@ -17,14 +17,7 @@ use Rattle.track.specs.Words.{wordAt, eight}
 use Rattle.track.specs.Records.{takenOf}
 use Rattle.track.proofs.Laws.{sample-below, halves}
 use Rattle.track_out.specs.Frames.{sentAt, frameOut, framesOut}
-use Rattle.track_out.proofs.Taking.{frames-more, taken-frames}
-
--- the second of two digits
-second : (y u v : ℕ) → u < 16777216 → v < 16777216 → y % 281474976710656 ≡ u + v * 16777216 → y / 16777216 % 16777216 ≡ v
-second y u v h l e =
-    let q = y / 281474976710656 in
-    let d : y / 16777216 ≡ q * 16777216 + v = omega arith in
-    rw d (omega arith)
+use Rattle.track_out.proofs.Taking.{frame-length, taken-frames}
 
 module _ (t : List ℕ) (below : (i : ℕ) → byte t i < 256) where
   -- two slots, as one number
@@ -49,15 +42,15 @@ module _ (t : List ℕ) (below : (i : ℕ) → byte t i < 256) where
       let e = at (q + 2 + 3 + 2) (q + 4 + 3) (omega arith) in
       omega (arith, below q, below (q + 1), below (q + 2), below (q + 3), below (q + 4), below (q + 4 + 1), below (q + 4 + 2), below (q + 4 + 3))
 
-  -- the pair at p, from a word whose lowest six bytes it is
-  stored : (p y w : ℕ) (ys : List ℕ) → y % 281474976710656 ≡ six p
-      → w ≡ sentOf Signed32 (y % 16777216) + sentOf Signed32 (y / 16777216 % 16777216) * 4294967296 → ys ≡ eight w → ys ≡ frameOut Signed32 t p 2
+  -- the pair at p, from a word whose highest six bytes it is
+  stored : (p y w : ℕ) (ys : List ℕ) → y / 65536 ≡ six p
+      → w ≡ sentOf Signed32 (y / 65536 % 16777216) + sentOf Signed32 (y / 1099511627776) * 4294967296 → ys ≡ eight w → ys ≡ frameOut Signed32 t p 2
   unfolding frameOut sentAt upTo
   stored p y w ys e f g =
       let u = sample-below Signed24 t p below in
       let v = sample-below Signed24 t (p + 3) below in
-      let a : y % 16777216 ≡ sampleAt Signed24 t p = omega arith in
-      let b : y / 16777216 % 16777216 ≡ sampleAt Signed24 t (p + 3) = second y _ _ u v e in
+      let a : y / 65536 % 16777216 ≡ sampleAt Signed24 t p = omega arith in
+      let b : y / 1099511627776 ≡ sampleAt Signed24 t (p + 3) = omega arith in
       let i : p + 0 * 3 ≡ p = omega arith in
       let j : p + 1 * 3 ≡ p + 3 = omega arith in
       g
@@ -65,20 +58,18 @@ module _ (t : List ℕ) (below : (i : ℕ) → byte t i < 256) where
       ∙ halves (sentOf Signed32 (sampleAt Signed24 t p)) (sentOf Signed32 (sampleAt Signed24 t (p + 3))) (sent-below Signed32 (sampleAt Signed24 t p) u)
       ∙ rw (i, j)
 
-  pub pair-stored : (p x w : ℕ) (ys : List ℕ) → x ≡ wordAt t p
-      → w ≡ sentOf Signed32 (x % 16777216) + sentOf Signed32 (x / 16777216 % 16777216) * 4294967296 → ys ≡ eight w → ys ≡ frameOut Signed32 t p 2
-  pair-stored p x w ys e = stored p x w ys (ap (λ (y : ℕ). y % 281474976710656) e ∙ low-six p)
+  pub pair-stored : (p x w : ℕ) (ys : List ℕ) → 2 ≤ p → x ≡ wordAt t (p - 2)
+      → w ≡ sentOf Signed32 (x / 65536 % 16777216) + sentOf Signed32 (x / 1099511627776) * 4294967296 → ys ≡ eight w → ys ≡ frameOut Signed32 t p 2
+  pair-stored p x w ys l e =
+      let s : p - 2 + 2 ≡ p = omega arith in
+      stored p x w ys (ap (λ (y : ℕ). y / 65536) e ∙ high-six (p - 2) ∙ ap six s)
 
-  -- the same of the highest six bytes
-  pub last-stored : (p q x w : ℕ) (ys : List ℕ) → x ≡ wordAt t q → p ≡ q + 2
-      → w ≡ sentOf Signed32 (x / 65536 % 16777216) + sentOf Signed32 (x / 65536 / 16777216 % 16777216) * 4294967296 → ys ≡ eight w
-      → ys ≡ frameOut Signed32 t p 2
-  last-stored p q x w ys e f =
-      let u = sample-below Signed24 t (q + 2) below in
-      let v = sample-below Signed24 t (q + 2 + 3) below in
-      let h : x / 65536 ≡ six (q + 2) = ap (λ (y : ℕ). y / 65536) e ∙ high-six q in
-      let g : x / 65536 % 281474976710656 ≡ six (q + 2) = omega arith in
-      stored p (x / 65536) w ys (rw f g)
+  pub first-stored : (p x w : ℕ) (ys : List ℕ) → x ≡ wordAt t p
+      → let y = x % 281474976710656 * 65536 in
+      w ≡ sentOf Signed32 (y / 65536 % 16777216) + sentOf Signed32 (y / 1099511627776) * 4294967296 → ys ≡ eight w → ys ≡ frameOut Signed32 t p 2
+  first-stored p x w ys e =
+      let s : x % 281474976710656 * 65536 / 65536 ≡ x % 281474976710656 = omega arith in
+      stored p (x % 281474976710656 * 65536) w ys (s ∙ ap (λ (y : ℕ). y % 281474976710656) e ∙ low-six p)
 
 -- ---- channels that lie side by side through all records
 
@@ -96,11 +87,40 @@ module _ (f : Format) (t : List ℕ) (s : ℕ) where
       let e : n * 4 * 2 ≡ n * 8 = omega arith in
       flat 2 (n * 4) ∙ ap (frameOut f t s) e ∙ sym (flat 8 n)
 
--- the pair after all others makes eight channels whole
-pub whole : (t : List ℕ) (first frames : ℕ) (out₀ out ys : List ℕ) (place : ℕ) → (frames ≡ 0 → ⊥) → place ≤ length out₀
-    → out ≡ put out₀ place (framesOut Signed32 t (first * 24) 6 (frames * 4 - 1) 2) → ys ≡ frameOut Signed32 t (first * 24 + (frames * 4 - 1) * 6) 2
-    → let a = place + (frames * 4 - 1) * 8 in putMid a (a + 8 - a) out ys ≡ put out₀ place (takenOf Signed32 t first frames 8)
-whole t first frames out₀ out ys place h l e f =
-    let n : frames * 4 - 1 + 1 ≡ frames * 4 = omega arith in
-    frames-more Signed32 t (first * 24) 6 2 out₀ out ys place (frames * 4 - 1) _ _ 8 e f refl refl refl l
-    ∙ rw (n, side-by-side Signed32 t (first * 24) frames, taken-frames Signed32 t first frames 8)
+-- what the first of some takes is within what all take
+pub all-but-first : (s step count l : ℕ) → 1 ≤ count → s + count * step ≤ l → (s + step ≤ l) × (s + step + (count - 1) * step ≤ l)
+all-but-first s step count l h m =
+    let n : count - 1 + 1 ≡ count = omega arith in
+    let e : count * step ≡ (count - 1) * step + step = ap (λ (x : ℕ). x * step) (sym n) ∙ one-more (count - 1) step in
+    (omega arith, omega arith)
+
+-- a frame, and the others after it
+frames-first : (f : Format) (t : List ℕ) (s step n channels : ℕ)
+    → framesOut f t s step (1 + n) channels ≡ frameOut f t s channels ++ framesOut f t (s + step) step n channels
+unfolding framesOut upTo
+frames-first f t s step n channels =
+    let z : s + 0 * step ≡ s = omega arith in
+    upTo-more 1 n (λ k. frameOut f t (s + k * step) channels)
+    ∙ ap (λ (x : ℕ). frameOut f t x channels ++ upTo n (λ i. frameOut f t (s + (1 + i) * step) channels)) z
+    ∙ ap (λ (l : List ℕ). frameOut f t s channels ++ l) (upTo-same n _ _ (λ i h.
+    let e : s + (1 + i) * step ≡ s + step + i * step = ap (λ (x : ℕ). s + x) (add-mul 1 i step ∙ rw (one-mul step)) ∙ sym (add-assoc s step (i * step)) in
+    ap (λ (x : ℕ). frameOut f t x channels) e))
+
+pub first-and-later : (t : List ℕ) (s step count : ℕ) (out₀ out ys : List ℕ) (place : ℕ) → 1 ≤ count → place ≤ length out₀
+    → ys ≡ frameOut Signed32 t s 2 → out ≡ put (putMid place (place + 8 - place) out₀ ys) (place + 8) (framesOut Signed32 t (s + step) step (count - 1) 2)
+    → out ≡ put out₀ place (framesOut Signed32 t s step count 2)
+first-and-later t s step count out₀ out ys place h l p q =
+    let n : length ys ≡ 8 = ap length p ∙ frame-length Signed32 t s 2 in
+    let m : 1 + (count - 1) ≡ count = omega arith in
+    let rest = framesOut Signed32 t (s + step) step (count - 1) 2 in
+    q
+    ∙ ap (λ (d : List ℕ). put d (place + 8) rest) (lent out₀ ys place (place + 8 - place) (omega arith))
+    ∙ ap (λ (x : ℕ). put (put out₀ place ys) (place + x) rest) (sym n)
+    ∙ put-more out₀ ys rest place l
+    ∙ ap (put out₀ place) (ap (λ (d : List ℕ). d ++ rest) p ∙ sym (frames-first Signed32 t s step (count - 1) 2) ∙ ap (λ (x : ℕ). framesOut Signed32 t s step x 2) m)
+
+-- eight channels are four pairs a frame
+pub eight-channels : (t : List ℕ) (first frames channels : ℕ) (out₀ out : List ℕ) (at : ℕ) → channels ≡ 8
+    → out ≡ put out₀ at (framesOut Signed32 t (first * 24) 6 (frames * 4) 2) → out ≡ put out₀ at (takenOf Signed32 t first frames channels)
+eight-channels t first frames channels out₀ out at e p =
+    p ∙ rw (e, side-by-side Signed32 t (first * 24) frames, taken-frames Signed32 t first frames 8)

@@ -52,25 +52,26 @@ fn some(track: &[u8], first: usize, frames: usize, channels: usize, out: &mut [u
     }
 }
 
-// The two slots in a word's lowest six bytes, as samples in a word.
+// The two slots in a word's highest six bytes, as samples in a word.
 fn pair(w: u64) -> u64
-    ensures { λ r. ⌜ r ≡ sentOf Signed32 (w % 16777216) + sentOf Signed32 (w / 16777216 % 16777216) * 4294967296 ⌝ }
+    ensures { λ r. ⌜ r ≡ sentOf Signed32 (w / 65536 % 16777216) + sentOf Signed32 (w / 1099511627776) * 4294967296 ⌝ }
 {
-    let a = slots::to_signed32((w % 16777216) as u32);
-    let b = slots::to_signed32((w / 16777216 % 16777216) as u32);
+    let a = slots::to_signed32((w / 65536 % 16777216) as u32);
+    let b = slots::to_signed32((w / 1099511627776) as u32);
     track::words::wider(a) + track::words::wider(b) * 4294967296
 }
 
-// Pairs of samples by one read and one store each, every pair `step` bytes after the one before.
-fn pairs(track: &[u8], start: usize, step: usize, count: usize, out: &mut [u8], at: usize)
-    requires { ⌜ (start + count * step ≤ length (now track)) × (start + count * step + 8 ≤ length (now track) + step) × (at + count * (2 * 4) ≤ length (now out)) ⌝ }
+// Pairs of samples, every pair `step` bytes after the one before, each by one read and one store. With the two bytes before a pair its
+// second slot stands where it is stored.
+fn later(track: &[u8], start: usize, step: usize, count: usize, out: &mut [u8], at: usize)
+    requires { ⌜ (2 ≤ start) × (6 ≤ step) × (start + count * step ≤ length (now track)) × (at + count * (2 * 4) ≤ length (now out)) ⌝ }
     ensures { λ _. ⌜ now (out .exit) ≡ put (now (out .entry)) at (framesOut Signed32 (now (track .entry)) start step count 2) ⌝ }
 {
     let mut k = 0;
     let mut from = start;
     let mut a = at;
     while k < count {
-        let w = pair(track::words::get8(track, from));
+        let w = pair(track::words::get8(track, from - 2));
         let e = a + 8;
         track::words::put8(&mut out[a..e], w);
         from += step;
@@ -79,21 +80,16 @@ fn pairs(track: &[u8], start: usize, step: usize, count: usize, out: &mut [u8], 
     }
 }
 
-// Eight channels are pairs side by side through all records. The last one is read with the bytes before it: after it the track may end.
-fn full(track: &[u8], first: usize, frames: usize, out: &mut [u8], at: usize)
-    requires { ⌜ ((first + frames) * 24 ≤ length (now track)) × (at + frames * (8 * 4) ≤ length (now out)) ⌝ }
-    ensures { λ _. ⌜ now (out .exit) ≡ put (now (out .entry)) at (takenOf Signed32 (now (track .entry)) first frames 8) ⌝ }
+// The same where no bytes may stand before the first pair, which is read with the two bytes after it.
+fn pairs(track: &[u8], start: usize, step: usize, count: usize, out: &mut [u8], at: usize)
+    requires { ⌜ (1 ≤ count) × (start + 8 ≤ length (now track)) ⌝ }
+    requires { ⌜ (6 ≤ step) × (start + count * step ≤ length (now track)) × (at + count * (2 * 4) ≤ length (now out)) ⌝ }
+    ensures { λ _. ⌜ now (out .exit) ≡ put (now (out .entry)) at (framesOut Signed32 (now (track .entry)) start step count 2) ⌝ }
 {
-    if frames == 0 {
-        return;
-    }
-    let count = frames * 4 - 1;
-    pairs(track, first * 24, 6, count, out, at);
-    let past = (first + frames) * 24;
-    let w = pair(track::words::get8(track, past - 8) / 65536);
-    let a = at + count * 8;
-    let e = a + 8;
-    track::words::put8(&mut out[a..e], w);
+    let w = pair(track::words::get8(track, start) % 281474976710656 * 65536);
+    let e = at + 8;
+    track::words::put8(&mut out[at..e], w);
+    later(track, start + step, step, count - 1, out, e);
 }
 
 pub fn take_out(
@@ -107,12 +103,16 @@ pub fn take_out(
     requires { ⌜ (channels ≤ 8) × ((first + frames) * 24 ≤ length (now track)) × (at + frames * (channels * 4) ≤ length (now out)) ⌝ }
     ensures { λ _. ⌜ now (out .exit) ≡ put (now (out .entry)) at (takenOf Signed32 (now (track .entry)) first frames channels) ⌝ }
 {
+    if frames == 0 {
+        return;
+    }
     if channels == 2 {
         pairs(track, first * 24, 24, frames, out, at);
         return;
     }
+    // Eight channels are pairs side by side through all records.
     if channels == 8 {
-        full(track, first, frames, out, at);
+        pairs(track, first * 24, 6, frames * 4, out, at);
         return;
     }
     if channels == 1 {

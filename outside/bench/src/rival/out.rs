@@ -97,24 +97,33 @@ fn two24(block: &[u8]) -> [u64; 3] {
 
 /// The two slots in a word's lowest six bytes, as samples of 32 bits in a word.
 #[inline(always)]
-fn pair(word: u64) -> [u8; 8] {
+fn low(word: &[u8]) -> [u8; 8] {
+    let word = u64::from_le_bytes(word.try_into().expect("eight bytes"));
     (word << 8 & 0xFFFF_FF00 | word << 16 & 0xFFFF_FF00_0000_0000).to_le_bytes()
 }
 
-/// Pairs of samples, each by one load and one store.
+/// Those in its highest six, of which one needs no shift.
 #[inline(always)]
-fn pairs<'a>(words: impl Iterator<Item = &'a [u8]>, data: &mut [u8]) {
-    for (to, word) in data.chunks_exact_mut(8).zip(words) {
-        to.copy_from_slice(&pair(u64::from_le_bytes(word.try_into().expect("eight bytes"))));
+fn high(word: &[u8]) -> [u8; 8] {
+    let word = u64::from_le_bytes(word.try_into().expect("eight bytes"));
+    (word >> 8 & 0xFFFF_FF00 | word & 0xFFFF_FF00_0000_0000).to_le_bytes()
+}
+
+#[inline(always)]
+fn two32(records: &[u8], data: &mut [u8]) {
+    for (to, record) in data.chunks_exact_mut(8).zip(records.chunks_exact(24)) {
+        to.copy_from_slice(&low(&record[..8]));
     }
 }
 
-/// Eight channels are pairs side by side through all records; after the last one the records end.
+/// Eight channels are pairs side by side through all records; only before the first are no bytes.
 #[inline(always)]
 fn eight32(records: &[u8], data: &mut [u8]) {
-    pairs(records.windows(8).step_by(6), data);
-    if let (Some(to), Some(word)) = (data.last_chunk_mut(), records.last_chunk()) {
-        *to = pair(u64::from_le_bytes(*word) >> 16);
+    if let Some((to, rest)) = data.split_first_chunk_mut() {
+        *to = low(&records[..8]);
+        for (to, word) in rest.chunks_exact_mut(8).zip(records[4..].windows(8).step_by(6)) {
+            to.copy_from_slice(&high(word));
+        }
     }
 }
 
@@ -146,7 +155,7 @@ pub fn take_out(format: u8, channels: u16, records: &[u8], data: &mut [u8]) {
         (2, 6) => bytes24::<18>(records, data),
         (2, 7) => bytes24::<21>(records, data),
         (2, _) => data.copy_from_slice(records),
-        (_, 2) => pairs(records.chunks_exact(24).map(|record| &record[..8]), data),
+        (_, 2) => two32(records, data),
         (_, 8) => eight32(records, data),
         _ => by_channels!(channels, records, data, 4, to32),
     }

@@ -1,53 +1,41 @@
--- A pair a turn, each in the part of the data that it is lent.
-use Prim.Native.Nat.{_+_, _-_, _≤_}
+-- The first pair, and the others after it.
+use Prim.Native.Nat.{_+_, _-_, _*_, _≤_}
 use native.Mathlib.Omega.{arith}
 use lib.ListN.{length}
 use borrow.Author.Needs.{needs}
-use Rattle.lists.proofs.Lists.{within}
-use Rattle.samples.specs.declared.Format.the-variants.{Signed32}
-use Rattle.track_out.proofs.Taking.{Taking, start, room, next, end}
-use Rattle.track_out.proofs.Pairs.{pair-stored}
+use Rattle.track_out.proofs.Pairs.{first-stored, all-but-first, first-and-later}
 use Rattle.track_out.proofs.out32.pairs.Statement.{statement}
 use Rattle.track_out.proofs.out32.pairs.Tie as tie
 
-abbrev Inv : tie.InvT-loop
-Inv track s step count out₀ at k₀ from₀ a₀ out k from a = Taking Signed32 track s step count 2 out₀ at out k from a
+-- the others stand in the track
+there : (c : tie.Start) →
+    let a = c .args in
+    (a .start + a .step ≤ length (a .track .now)) × (a .start + a .step + (a .count - 1) * a .step ≤ length (a .track .now))
+there c = all-but-first (c .args .start) (c .args .step) (c .args .count) (length (c .args .track .now)) (c .pre .0 .0) (c .pre .1 .1)
 
-abbrev μ : tie.MeasureT-loop
-μ track s step count out₀ at k₀ from₀ a₀ out k from a = count - k
-
--- the word is there, and the next one starts in the track or at its end
-there : (c : tie.In-loop Inv μ) →
-    let l = c .before .loop in
-    let p = c .before .before .before .before .args in
-    (l .from + 8 ≤ length (p .track .now)) × (l .from + p .step ≤ length (p .track .now)) × (l .a + 8 ≤ length (p .out .now))
-there c =
-    let p = c .before .before .before .before .args in
-    let w = within (c .before .loop .k) (p .count) (p .step) (c .loop-test .taken) in
-    (omega arith, omega arith, search (room Signed32 2))
-
-again : tie.Need-loop-again Inv μ
-again c =
-    let o = c .before .before .before .before .before .before .before .before .before in
-    search (next Signed32 2, pair-stored (o .before .args .track .now) (λ i. o .shared-slice-known .given i .fits))
+returns : tie.Need-returns
+returns c =
+    let o = c .before .before .before .before .before .before .before .before .before .before .before in
+    let a = o .before .args in
+    let room : a .at ≤ length (a .out .now) = omega arith in
+    search (first-and-later (a .track .now), first-stored (a .track .now) (λ i. o .shared-slice-known .given i .fits))
 
 pub pairs-spec : {M : Type 1} → statement M
 pairs-spec =
     tie.close
     (tie.spec
-    Inv
-    μ
-    (λ c. search start)
-    (λ c κs. there c .0)
     (λ c κs. search needs)
-    (λ c. omega (arith, there (c .before .before) .2))
+    (λ c. search needs)
+    (λ c κs. search needs)
     (λ c. search needs)
     (λ c. search needs)
-    (λ c. omega (arith, there (c .before .before) .2))
-    (λ c κs. omega (arith, c .put8-arg .given .2))
-    (λ c. omega (arith, there (c .before .before .before .before .before .before) .1))
     (λ c. search needs)
     (λ c. search needs)
-    again
+    (λ c κs. search needs)
+    (λ c. omega (arith, there (c .before .before .before .before .before .before .before .before) .0))
     (λ c. search needs)
-    (λ c. search (end Signed32 2)))
+    (λ c κs.
+    let o = c .before .before .before .before .before .before .before .before .before in
+    (omega arith, search needs, there o .1, omega arith))
+    (λ c. search needs)
+    returns)
