@@ -2,12 +2,12 @@
 use mathlib.Core.Path.{_≡_, sym, ap, _∙_}
 use mathlib.Core.List.{List, _++_}
 use Prim.Native.Nat.{ℕ, _+_, _-_, _*_, _/_, _%_, _≤_, _<_}
-use native.Mathlib.Nat.{mul-assoc, add-mul, one-mul, add-assoc}
+use native.Mathlib.Nat.{mul-assoc, one-mul}
 use native.Mathlib.Omega.{arith}
 use lib.ListN.{length}
 use borrow.Rule.Slice.PartMut.{putMid}
 use Rattle.lists.specs.Lists.{byte, put, upTo}
-use Rattle.lists.proofs.Lists.{one-more, put-more, lent, upTo-same, upTo-more, upTo-flat}
+use Rattle.lists.proofs.Lists.{one-more, put-more, lent, upTo-same, upTo-flat}
 use Rattle.samples.specs.declared.Format.{Format}
 use Rattle.samples.specs.declared.Format.the-variants.{Signed24, Signed32}
 use Rattle.samples.specs.Wire.{sentOf}
@@ -17,7 +17,7 @@ use Rattle.track.specs.Words.{wordAt, eight}
 use Rattle.track.specs.Records.{takenOf}
 use Rattle.track.proofs.Laws.{sample-below, halves}
 use Rattle.track_out.specs.Frames.{sentAt, frameOut, framesOut}
-use Rattle.track_out.proofs.Taking.{frame-length, taken-frames}
+use Rattle.track_out.proofs.Taking.{frame-length, frames-joined, taken-frames}
 
 module _ (t : List ℕ) (below : (i : ℕ) → byte t i < 256) where
   -- two slots, as one number
@@ -94,17 +94,14 @@ all-but-first s step count l h m =
     let e : count * step ≡ (count - 1) * step + step = ap (λ (x : ℕ). x * step) (sym n) ∙ one-more (count - 1) step in
     (omega arith, omega arith)
 
--- a frame, and the others after it
+-- a pair, and the others after it
 frames-first : (f : Format) (t : List ℕ) (s step n channels : ℕ)
     → framesOut f t s step (1 + n) channels ≡ frameOut f t s channels ++ framesOut f t (s + step) step n channels
 unfolding framesOut upTo
 frames-first f t s step n channels =
     let z : s + 0 * step ≡ s = omega arith in
-    upTo-more 1 n (λ k. frameOut f t (s + k * step) channels)
-    ∙ ap (λ (x : ℕ). frameOut f t x channels ++ upTo n (λ i. frameOut f t (s + (1 + i) * step) channels)) z
-    ∙ ap (λ (l : List ℕ). frameOut f t s channels ++ l) (upTo-same n _ _ (λ i h.
-    let e : s + (1 + i) * step ≡ s + step + i * step = ap (λ (x : ℕ). s + x) (add-mul 1 i step ∙ rw (one-mul step)) ∙ sym (add-assoc s step (i * step)) in
-    ap (λ (x : ℕ). frameOut f t x channels) e))
+    frames-joined f t s step 1 n channels
+    ∙ rw (z, one-mul step)
 
 pub first-and-later : (t : List ℕ) (s step count : ℕ) (out₀ out ys : List ℕ) (place : ℕ) → 1 ≤ count → place ≤ length out₀
     → ys ≡ frameOut Signed32 t s 2 → out ≡ put (putMid place (place + 8 - place) out₀ ys) (place + 8) (framesOut Signed32 t (s + step) step (count - 1) 2)

@@ -2,13 +2,13 @@
 use mathlib.Core.Path.{_≡_, refl, sym, ap, _∙_}
 use mathlib.Core.List.{List, _++_}
 use Prim.Native.Nat.{ℕ, _+_, _*_, _-_, _≤_, _<_, zero-le}
-use native.Mathlib.Nat.{le-antisymm, zero-add}
+use native.Mathlib.Nat.{le-antisymm, zero-add, add-mul, add-assoc}
 use native.Mathlib.Omega.{arith}
 use lib.ListN.{length, length-append}
 use lib.Seq.{sets}
 use borrow.Rule.Slice.PartMut.{putMid}
 use Rattle.lists.specs.Lists.{put, upTo}
-use Rattle.lists.proofs.Lists.{upTo-length, upTo-same, put-none, put-length, put-more, put-whole, lent, turn, filled, stored, within, one-more}
+use Rattle.lists.proofs.Lists.{upTo-length, upTo-same, upTo-more, put-none, put-length, put-more, put-whole, lent, turn, filled, stored, within, one-more}
 use Rattle.samples.specs.declared.Format.{Format}
 use Rattle.samples.specs.declared.Format.the-variants.{Unsigned8, Signed16, Signed24, Signed32}
 use Rattle.samples.specs.Formats.{sizeOf}
@@ -84,10 +84,20 @@ module _ (f : Format) (t : List ℕ) (at channels : ℕ) (out₀ : List ℕ) (h 
 
 -- ---- the loop over the frames
 
-frames-length : (f : Format) (t : List ℕ) (s step n channels : ℕ) → length (framesOut f t s step n channels) ≡ n * (channels * sizeOf f)
+pub frames-length : (f : Format) (t : List ℕ) (s step n channels : ℕ) → length (framesOut f t s step n channels) ≡ n * (channels * sizeOf f)
 unfolding framesOut
 frames-length f t s step n channels =
     upTo-length (channels * sizeOf f) (λ k. frameOut f t (s + k * step) channels) (λ k. frame-length f t (s + k * step) channels) n
+
+-- m frames, and n after them
+pub frames-joined : (f : Format) (t : List ℕ) (s step m n channels : ℕ)
+    → framesOut f t s step (m + n) channels ≡ framesOut f t s step m channels ++ framesOut f t (s + m * step) step n channels
+unfolding framesOut
+frames-joined f t s step m n channels =
+    upTo-more m n (λ k. frameOut f t (s + k * step) channels)
+    ∙ ap (λ (l : List ℕ). framesOut f t s step m channels ++ l) (upTo-same n _ _ (λ i h.
+    let e : s + (m + i) * step ≡ s + m * step + i * step = ap (λ (x : ℕ). s + x) (add-mul m i step) ∙ sym (add-assoc s (m * step) (i * step)) in
+    ap (λ (x : ℕ). frameOut f t x channels) e))
 
 -- a frame more, in the part that it is lent
 pub frames-more : (f : Format) (t : List ℕ) (s step channels : ℕ) (out₀ out ys : List ℕ) (place k a at n : ℕ)

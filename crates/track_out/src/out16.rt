@@ -5,7 +5,7 @@ ghost use lib.ListN.{length};
 ghost use Rattle.samples.specs.declared.Format.the-variants.{Signed16};
 ghost use Rattle.lists.specs.Lists.{put};
 ghost use Rattle.track.specs.Records.{takenOf};
-ghost use Rattle.track_out.specs.Frames.{sentAt, frameOut, runOut};
+ghost use Rattle.track_out.specs.Frames.{sentAt, frameOut, framesOut, runOut};
 use crate::words;
 use samples::slots;
 
@@ -49,6 +49,35 @@ fn some(track: &[u8], first: usize, frames: usize, channels: usize, out: &mut [u
         a = e;
         k += 1;
     }
+}
+
+// Two frames of one channel by one store.
+fn two_frames(track: &[u8], at: usize, out: &mut [u8])
+    requires { ⌜ (at + 48 ≤ length (now track)) × (length (now out) ≡ 4) ⌝ }
+    ensures { λ _. ⌜ now (out .exit) ≡ framesOut Signed16 (now (track .entry)) at 24 2 1 ⌝ }
+{
+    let a = sample(track, at, 0);
+    let b = sample(track, at + 24, 0);
+    words::put4(out, a + b * 65536);
+}
+
+// Two frames a turn, and the one that may be left.
+fn ones(track: &[u8], first: usize, frames: usize, out: &mut [u8], at: usize)
+    requires { ⌜ ((first + frames) * 24 ≤ length (now track)) × (at + frames * (1 * 2) ≤ length (now out)) ⌝ }
+    ensures { λ _. ⌜ now (out .exit) ≡ put (now (out .entry)) at (takenOf Signed16 (now (track .entry)) first frames 1) ⌝ }
+{
+    let count = frames / 2;
+    let mut k = 0;
+    let mut from = first * 24;
+    let mut a = at;
+    while k < count {
+        let e = a + 4;
+        two_frames(track, from, &mut out[a..e]);
+        from += 48;
+        a = e;
+        k += 1;
+    }
+    some(track, first + count * 2, frames % 2, 1, out, a);
 }
 
 // Frames of eight channels are straight-line code: the loop over the channels would not unroll at eight.
@@ -114,7 +143,7 @@ pub fn take_out(
         return;
     }
     if channels == 1 {
-        some(track, first, frames, 1, out, at);
+        ones(track, first, frames, out, at);
         return;
     }
     some(track, first, frames, channels, out, at);

@@ -37,6 +37,23 @@ fn frames<const SIZE: usize, const CHANNELS: usize>(
     }
 }
 
+/// One channel, two frames a turn: two samples as a number of twice the size.
+#[inline(always)]
+fn ones<const SIZE: usize, const BOTH: usize>(
+    records: &[u8],
+    data: &mut [u8],
+    sample: impl Fn(i32) -> [u8; SIZE],
+    both: impl Fn([u8; SIZE], [u8; SIZE]) -> [u8; BOTH],
+) {
+    let (twos, last) = records.split_at(records.len() / 48 * 48);
+    let (stored, left) = data.split_at_mut(twos.len() / 24 * SIZE);
+    for (to, two) in stored.chunks_exact_mut(BOTH).zip(twos.chunks_exact(48)) {
+        let [a, b] = [&two[..24], &two[24..]].map(|record| sample(from_parts(record)[0]));
+        to.copy_from_slice(&both(a, b));
+    }
+    frames::<SIZE, 1>(last, left, sample);
+}
+
 /// The nearest 8 bits, the even ones at a tie.
 #[inline(always)]
 fn to8(slot: i32) -> [u8; 1] {
@@ -145,6 +162,10 @@ macro_rules! by_channels {
 
 pub fn take_out(format: u8, channels: u16, records: &[u8], data: &mut [u8]) {
     match (format, channels) {
+        (0, 1) => ones(records, data, to8, |[a], [b]| (u16::from(a) | u16::from(b) << 8).to_le_bytes()),
+        (1, 1) => ones(records, data, to16, |a, b| {
+            (u32::from(u16::from_le_bytes(a)) | u32::from(u16::from_le_bytes(b)) << 16).to_le_bytes()
+        }),
         (0, _) => by_channels!(channels, records, data, 1, to8),
         (1, _) => by_channels!(channels, records, data, 2, to16),
         (2, 1) => out24::<3>(records, data, one24),

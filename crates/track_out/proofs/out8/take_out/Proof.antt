@@ -15,7 +15,7 @@ take-out-spec =
     (λ c κs. (search needs, search room-for))
     (λ c. search needs)
     (λ c. search for-count)
-    (λ c κs. (search needs, search needs, search room-for))
+    (λ c κs. (search needs, search room-for))
     (λ c. search needs)
     (λ c. search for-count)
     (λ c κs. search needs)
