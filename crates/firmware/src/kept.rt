@@ -97,7 +97,7 @@ fn store_newest(newest: u32, place: usize, kept: &mut [u8])
 }
 
 // The bytes after the name.
-pub(crate) fn store_tail(t: Take, kept: &mut [u8])
+fn store_tail(t: Take, kept: &mut [u8])
     requires { ⌜ length (now kept) ≡ 40 ⌝ }
     ensures { λ _. ⌜ now (kept .exit) ≡ put (now (kept .entry)) 16 (tailOf t) ⌝ }
 {
