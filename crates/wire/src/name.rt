@@ -67,16 +67,6 @@ fn lowest(w: u64, k: usize) -> u64
     w
 }
 
-// How many of `k` bytes stand past the first eight.
-fn past_eight(k: usize) -> usize
-    ensures { λ r. ⌜ r ≡ k - 8 ⌝ }
-{
-    if k < 8 {
-        return 0;
-    }
-    k - 8
-}
-
 // A number's eight bytes, the lowest first.
 fn put_eight(w: u64, out: &mut [u8])
     requires { ⌜ length (now out) ≡ 8 ⌝ }
@@ -89,14 +79,20 @@ fn put_eight(w: u64, out: &mut [u8])
 }
 
 // The name of `k` characters with zeros after it, into the bytes that are lent, as two words: a copy of so many bytes would cost a
-// loop. Both are read before one is stored, since nothing tells the compiler that the slices are apart.
+// loop. The second word of a short name is zero. Both are read before one is stored, since nothing tells the compiler that the slices
+// are apart.
 pub(crate) fn keep(n: &[u8], k: usize, out: &mut [u8])
     requires { ⌜ (length (now n) ≡ 16) × (length (now out) ≡ 16) ⌝ }
     requires { ⌜ k ≡ length (nameOf (now n)) ⌝ }
     ensures { λ _. ⌜ now (out .exit) ≡ keptName (now (n .entry)) ⌝ }
 {
     let first = lowest(eight_at(n, 0), k);
-    let second = lowest(eight_at(n, 8), past_eight(k));
+    if k < 8 {
+        put_eight(first, &mut out[0..8]);
+        put_eight(0, &mut out[8..16]);
+        return;
+    }
+    let second = lowest(eight_at(n, 8), k - 8);
     put_eight(first, &mut out[0..8]);
     put_eight(second, &mut out[8..16]);
 }

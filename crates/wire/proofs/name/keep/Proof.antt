@@ -1,5 +1,5 @@
 -- Two words, each stored in its half.
-use mathlib.Core.Path.{_≡_, sym, ap, _∙_}
+use mathlib.Core.Path.{_≡_, refl, sym, ap, _∙_}
 use mathlib.Core.List.{List, _++_}
 use Prim.Native.Nat.{ℕ, _-_, _*_, _%_, _^_, _<_}
 use native.Mathlib.Omega.{arith}
@@ -30,15 +30,27 @@ module _ (n out : List ℕ) (sixteen : (length n ≡ 16) × (length out ≡ 16))
       ∙ put-whole out (ys ++ zs) l
       ∙ rw (y, z) (kept-words n k (sixteen .0) p)
 
+  -- under eight characters the second word is zero
+  short : (k a w : ℕ) (ys zs : List ℕ) → k ≡ length (nameOf n) → a ≡ eightAt n 0 → w ≡ a % 2 ^ (8 * k) → k < 8 → ys ≡ stored w → zs ≡ stored 0
+      → putMid 8 8 (putMid 0 8 out ys) zs ≡ keptName n
+  short k a w ys zs p ea ew l py pz = words k 0 a (eightAt n 8) w 0 ys zs p ea ew refl (omega arith) (omega arith) py pz
+
+returns : tie.Need-returns
+returns c =
+    let o = c .before .before .before .before .before .before .before .before .before .before .before .before in
+    search (short (o .before .args .n .now) (o .before .args .out .now) (o .before .pre .0) (λ j. o .shared-slice-known .given j .fits))
+
+returns-2 : tie.Need-returns-2
+returns-2 c =
+    let o = c .before .before .before .before .before .before .before .before .before .before .before .before .before .before in
+    search (words (o .before .args .n .now) (o .before .args .out .now) (o .before .pre .0) (λ j. o .shared-slice-known .given j .fits))
+
 pub keep-spec : {M : Type 1} → statement M
 keep-spec =
     tie.close
     (tie.spec
     (λ c κs. search needs)
     (λ c κs. search needs)
-    (λ c κs. search needs)
-    (λ c κs. search needs)
-    (λ c κs. search needs)
     (λ c. search needs)
     (λ c. search needs)
     (λ c. search needs)
@@ -48,6 +60,16 @@ keep-spec =
     (λ c. search needs)
     (λ c κs. search needs)
     (λ c. search needs)
-    (λ c.
-    let o = c .before .before .before .before .before .before .before .before .before .before .before .before .before .before in
-    search (words (o .before .args .n .now) (o .before .args .out .now) (o .before .pre .0) (λ j. o .shared-slice-known .given j .fits))))
+    returns
+    (λ c κs. search needs)
+    (λ c κs. search needs)
+    (λ c. search needs)
+    (λ c. search needs)
+    (λ c. search needs)
+    (λ c κs. search needs)
+    (λ c. search needs)
+    (λ c. search needs)
+    (λ c. search needs)
+    (λ c κs. search needs)
+    (λ c. search needs)
+    returns-2)
