@@ -58,6 +58,14 @@ pub fn to_unsigned8(s: u32) -> u32
     (numbers::rescale(numbers::signed(s * 256, 32), 32, 8) + 128) as u32
 }
 
+// The same less 128, as a signed byte: a caller may add 128 to all the bytes of a word at once.
+pub fn to_signed8(s: u32) -> u32
+    requires { ⌜ s < 2 ^ 24 ⌝ }
+    ensures { λ r. ⌜ ((r + 128) % 256 ≡ sentOf Unsigned8 s) × (r < 2 ^ 8) ⌝ }
+{
+    moved(s * 256, 32, 8)
+}
+
 pub fn to_signed16(s: u32) -> u32
     requires { ⌜ s < 2 ^ 24 ⌝ }
     ensures { λ r. ⌜ (r ≡ sentOf Signed16 s) × (r < 2 ^ 16) ⌝ }

@@ -4,3 +4,4 @@ pub mod Laying
 pub mod Blocks
 pub mod Laws
 pub mod Copying
+pub mod Flipped

@@ -3,4 +3,4 @@ pub mod Runs
 pub mod Copying
 pub mod Overlaid
 pub mod Pairs
-pub mod Twos
+pub mod Groups

@@ -1,26 +1,23 @@
--- A frame of eight channels in runs, each stored in a part that is lent.
+-- A frame in runs of its channels, each stored in a part that is lent.
 use mathlib.Core.Path.{_≡_, sym, ap, _∙_}
 use mathlib.Core.List.{List, _++_}
-use Prim.Native.Nat.{ℕ, _+_, _*_}
-use native.Mathlib.Nat.{add-zero, add-assoc}
+use Prim.Native.Nat.{ℕ, _+_, _*_, zero-le}
+use native.Mathlib.Nat.{zero-add, add-assoc}
+use native.Mathlib.Omega.{arith}
 use lib.ListN.{length}
 use borrow.Rule.Slice.PartMut.{putMid}
-use Rattle.lists.specs.Lists.{upTo}
-use Rattle.lists.proofs.Lists.{upTo-same, upTo-more}
+use Rattle.lists.specs.Lists.{put, upTo}
+use Rattle.lists.proofs.Lists.{lent, put-none, put-more, put-whole, upTo-same, upTo-more}
 use Rattle.samples.specs.declared.Format.{Format}
 use Rattle.samples.specs.Formats.{sizeOf}
 use Rattle.track.specs.Bytes.{sampleBytes}
 use Rattle.track_out.specs.Frames.{sentAt, frameOut, runOut}
-use Rattle.track_out.proofs.Taking.{beside, samples-length}
+use Rattle.track_out.proofs.Taking.{samples-length}
 
 module _ (f : Format) (t : List ℕ) (at : ℕ) where
   run-length : (c n : ℕ) → length (runOut f t at c n) ≡ n * sizeOf f
   unfolding runOut
   run-length c n = samples-length f (λ i. sentAt f t at (c + i)) n
-
-  run-one : (c v : ℕ) → v ≡ sentAt f t at c → sampleBytes f v ≡ runOut f t at c 1
-  unfolding runOut upTo
-  run-one c v p = rw (p, add-zero c)
 
   run-more : (c m n : ℕ) → runOut f t at c (m + n) ≡ runOut f t at c m ++ runOut f t at (c + m) n
   unfolding runOut
@@ -28,21 +25,45 @@ module _ (f : Format) (t : List ℕ) (at : ℕ) where
       upTo-more m n (λ i. sampleBytes f (sentAt f t at (c + i)))
       ∙ ap (λ (l : List ℕ). runOut f t at c m ++ l) (upTo-same n _ _ (λ i h. ap (λ (x : ℕ). sampleBytes f (sentAt f t at x)) (sym (add-assoc c m i))))
 
--- a run of m and then a run of n, in parts side by side
-pub joined : (f : Format) (m n : ℕ) (t : List ℕ) (at c : ℕ) (out xs ys : List ℕ) → length out ≡ m * sizeOf f + n * sizeOf f
-    → xs ≡ runOut f t at c m → ys ≡ runOut f t at (c + m) n
-    → putMid (m * sizeOf f) (n * sizeOf f) (putMid 0 (m * sizeOf f) out xs) ys ≡ runOut f t at c (m + n)
-joined f m n t at c out xs ys h p q =
-    beside out xs ys (m * sizeOf f) (n * sizeOf f) h (ap length p ∙ run-length f t at c m) (ap length q ∙ run-length f t at (c + m) n)
-    ∙ rw (p, q, run-more f t at c m n)
+  -- a frame is the run of all its channels
+  whole : (n : ℕ) → runOut f t at 0 n ≡ frameOut f t at n
+  unfolding runOut frameOut
+  whole n = upTo-same n _ _ (λ i h. ap (λ (x : ℕ). sampleBytes f (sentAt f t at x)) (zero-add i))
 
-module _ (f : Format) (t : List ℕ) (at : ℕ) where
-  pub paired : (c v w : ℕ) (out xs ys : List ℕ) → length out ≡ 1 * sizeOf f + 1 * sizeOf f
-      → xs ≡ sampleBytes f v → v ≡ sentAt f t at c → ys ≡ sampleBytes f w → w ≡ sentAt f t at (c + 1)
-      → putMid (1 * sizeOf f) (1 * sizeOf f) (putMid 0 (1 * sizeOf f) out xs) ys ≡ runOut f t at c 2
-  paired c v w out xs ys h p pv q qw = joined f 1 1 t at c out xs ys h (p ∙ run-one f t at c v pv) (q ∙ run-one f t at (c + 1) w qw)
+  pub run-for-count : (channels n : ℕ) (out w : List ℕ) → channels ≡ n → out ≡ w → w ≡ runOut f t at 0 n → out ≡ frameOut f t at channels
+  run-for-count channels n out w e p q = rw e (p ∙ q ∙ whole n)
 
-  -- the frame is the run of eight
-  pub eight-channels : (out : List ℕ) → out ≡ runOut f t at 0 8 → out ≡ frameOut f t at 8
-  unfolding runOut frameOut upTo
-  eight-channels out p = p
+  -- no channels yet
+  none : (out : List ℕ) → out ≡ put out 0 (runOut f t at 0 0)
+  unfolding runOut upTo
+  none out = put-none out 0
+
+  -- m channels more, in the part that they are lent
+  more : (n m : ℕ) (out₀ out xs : List ℕ) → out ≡ put out₀ 0 (runOut f t at 0 n) → xs ≡ runOut f t at n m
+      → putMid (n * sizeOf f) (m * sizeOf f) out xs ≡ put out₀ 0 (runOut f t at 0 (n + m))
+  more n m out₀ out xs p q =
+      let done = runOut f t at 0 n in
+      let w : n * sizeOf f ≡ 0 + length done = omega (arith, run-length 0 n) in
+      let j : done ++ runOut f t at n m ≡ runOut f t at 0 (n + m) = sym (run-more 0 n m ∙ rw (zero-add n)) in
+      lent out xs (n * sizeOf f) (m * sizeOf f) (ap length q ∙ run-length n m)
+      ∙ rw (p, w, put-more out₀ done xs 0 zero-le, q, j)
+
+  -- and all of them, over what was lent
+  all : (n : ℕ) (out₀ out : List ℕ) → length out₀ ≡ n * sizeOf f → out ≡ put out₀ 0 (runOut f t at 0 n) → out ≡ frameOut f t at n
+  all n out₀ out h p = p ∙ put-whole out₀ (runOut f t at 0 n) (h ∙ sym (run-length 0 n)) ∙ whole n
+
+-- eight channels by words of four, or of two
+module _ (f : Format) (t : List ℕ) (at : ℕ) (out : List ℕ) (h : length out ≡ 8 * sizeOf f) where
+  pub by-fours : (xs ys v w : List ℕ) → xs ≡ v → ys ≡ w → v ≡ runOut f t at 0 4 → w ≡ runOut f t at 4 4
+      → putMid (4 * sizeOf f) (4 * sizeOf f) (putMid (0 * sizeOf f) (4 * sizeOf f) out xs) ys ≡ frameOut f t at 8
+  by-fours xs ys v w i j p q = all f t at 8 out _ h (more f t at 4 4 out _ ys (more f t at 0 4 out out xs (none f t at out) (i ∙ p)) (j ∙ q))
+
+  pub by-twos : (xs ys zs us v w x y : List ℕ) → xs ≡ v → ys ≡ w → zs ≡ x → us ≡ y
+      → v ≡ runOut f t at 0 2 → w ≡ runOut f t at 2 2 → x ≡ runOut f t at 4 2 → y ≡ runOut f t at 6 2
+      → putMid (6 * sizeOf f) (2 * sizeOf f) (putMid (4 * sizeOf f) (2 * sizeOf f) (putMid (2 * sizeOf f) (2 * sizeOf f) (putMid (0 * sizeOf f) (2 * sizeOf f) out xs) ys) zs) us
+      ≡ frameOut f t at 8
+  by-twos xs ys zs us v w x y i j k l p q r s =
+      let a = more f t at 0 2 out out xs (none f t at out) (i ∙ p) in
+      let b = more f t at 2 2 out _ ys a (j ∙ q) in
+      let c = more f t at 4 2 out _ zs b (k ∙ r) in
+      all f t at 8 out _ h (more f t at 6 2 out _ us c (l ∙ s))

@@ -2,7 +2,8 @@
 ghost use mathlib.Core.Path.{_≡_};
 ghost use Prim.Native.Nat.{_+_, _*_, _<_, _≤_};
 ghost use lib.ListN.{length};
-ghost use Rattle.samples.specs.declared.Format.the-variants.{Signed16};
+ghost use Rattle.samples.specs.declared.Format.the-variants.{Signed16, Signed32};
+ghost use Rattle.track.specs.Bytes.{sampleBytes};
 ghost use Rattle.lists.specs.Lists.{put};
 ghost use Rattle.track.specs.Records.{takenOf};
 ghost use Rattle.track_out.specs.Frames.{sentAt, frameOut, framesOut, runOut};
@@ -19,10 +20,25 @@ fn sample(track: &[u8], at: usize, c: usize) -> u32
     slots::to_signed16(words::slot(track, at, c))
 }
 
+// Two channels as a word.
+fn pair(track: &[u8], at: usize, c: usize) -> u32
+    requires { ⌜ (c + 2 ≤ 8) × (at + 24 ≤ length (now track)) ⌝ }
+    ensures { λ r. ⌜ sampleBytes Signed32 r ≡ runOut Signed16 (now (track .entry)) at c 2 ⌝ }
+{
+    let v = sample(track, at, c);
+    let w = sample(track, at, c + 1);
+    words::two(v, w)
+}
+
 fn frame(track: &[u8], at: usize, channels: usize, out: &mut [u8])
     requires { ⌜ (channels ≤ 8) × (at + 24 ≤ length (now track)) × (length (now out) ≡ channels * 2) ⌝ }
     ensures { λ _. ⌜ now (out .exit) ≡ frameOut Signed16 (now (track .entry)) at channels ⌝ }
 {
+    if channels == 2 {
+        let v = pair(track, at, 0);
+        words::put4(out, v);
+        return;
+    }
     let mut c = 0;
     while c < channels {
         let a = c * SIZE;
@@ -33,7 +49,7 @@ fn frame(track: &[u8], at: usize, channels: usize, out: &mut [u8])
     }
 }
 
-// A frame a turn. Called with a literal count, the loop over the channels folds away.
+// A frame a turn. Called with a literal count, the tests on it fold away.
 fn some(track: &[u8], first: usize, frames: usize, channels: usize, out: &mut [u8], at: usize)
     requires { ⌜ (channels ≤ 8) × ((first + frames) * 24 ≤ length (now track)) × (at + frames * (channels * 2) ≤ length (now out)) ⌝ }
     ensures { λ _. ⌜ now (out .exit) ≡ put (now (out .entry)) at (takenOf Signed16 (now (track .entry)) first frames channels) ⌝ }
@@ -51,14 +67,14 @@ fn some(track: &[u8], first: usize, frames: usize, channels: usize, out: &mut [u
     }
 }
 
-// Two frames of one channel by one store.
-fn two_frames(track: &[u8], at: usize, out: &mut [u8])
-    requires { ⌜ (at + 48 ≤ length (now track)) × (length (now out) ≡ 4) ⌝ }
-    ensures { λ _. ⌜ now (out .exit) ≡ framesOut Signed16 (now (track .entry)) at 24 2 1 ⌝ }
+// Two frames of one channel as a word.
+fn two_frames(track: &[u8], at: usize) -> u32
+    requires { ⌜ at + 48 ≤ length (now track) ⌝ }
+    ensures { λ r. ⌜ sampleBytes Signed32 r ≡ framesOut Signed16 (now (track .entry)) at 24 2 1 ⌝ }
 {
-    let a = sample(track, at, 0);
-    let b = sample(track, at + 24, 0);
-    words::put4(out, a + b * 65536);
+    let v = sample(track, at, 0);
+    let w = sample(track, at + 24, 0);
+    words::two(v, w)
 }
 
 // Two frames a turn, and the one that may be left.
@@ -71,8 +87,9 @@ fn ones(track: &[u8], first: usize, frames: usize, out: &mut [u8], at: usize)
     let mut from = first * 24;
     let mut a = at;
     while k < count {
+        let v = two_frames(track, from);
         let e = a + 4;
-        two_frames(track, from, &mut out[a..e]);
+        words::put4(&mut out[a..e], v);
         from += 48;
         a = e;
         k += 1;
@@ -80,31 +97,20 @@ fn ones(track: &[u8], first: usize, frames: usize, out: &mut [u8], at: usize)
     some(track, first + count * 2, frames % 2, 1, out, a);
 }
 
-// Frames of eight channels are straight-line code: the loop over the channels would not unroll at eight.
-fn pair(track: &[u8], at: usize, c: usize, out: &mut [u8])
-    requires { ⌜ (c + 2 ≤ 8) × (at + 24 ≤ length (now track)) × (length (now out) ≡ 4) ⌝ }
-    ensures { λ _. ⌜ now (out .exit) ≡ runOut Signed16 (now (track .entry)) at c 2 ⌝ }
-{
-    let v = sample(track, at, c);
-    words::put2(&mut out[0..2], v);
-    let w = sample(track, at, c + 1);
-    words::put2(&mut out[2..4], w);
-}
-
-fn four(track: &[u8], at: usize, c: usize, out: &mut [u8])
-    requires { ⌜ (c + 4 ≤ 8) × (at + 24 ≤ length (now track)) × (length (now out) ≡ 8) ⌝ }
-    ensures { λ _. ⌜ now (out .exit) ≡ runOut Signed16 (now (track .entry)) at c 4 ⌝ }
-{
-    pair(track, at, c, &mut out[0..4]);
-    pair(track, at, c + 2, &mut out[4..8]);
-}
-
+// Frames of eight channels are straight-line code: the loop over the channels would not unroll at eight. All is read before any is
+// stored: nothing tells the compiler that the slices are apart.
 fn full_frame(track: &[u8], at: usize, out: &mut [u8])
     requires { ⌜ (at + 24 ≤ length (now track)) × (length (now out) ≡ 16) ⌝ }
     ensures { λ _. ⌜ now (out .exit) ≡ frameOut Signed16 (now (track .entry)) at 8 ⌝ }
 {
-    four(track, at, 0, &mut out[0..8]);
-    four(track, at, 4, &mut out[8..16]);
+    let v = pair(track, at, 0);
+    let w = pair(track, at, 2);
+    let x = pair(track, at, 4);
+    let y = pair(track, at, 6);
+    words::put4(&mut out[0..4], v);
+    words::put4(&mut out[4..8], w);
+    words::put4(&mut out[8..12], x);
+    words::put4(&mut out[12..16], y);
 }
 
 fn full(track: &[u8], first: usize, frames: usize, out: &mut [u8], at: usize)

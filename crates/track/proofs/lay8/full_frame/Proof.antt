@@ -1,11 +1,10 @@
 -- The bytes of the word are the frame's samples.
-use mathlib.Core.Path.{_≡_, refl, ap, _∙_}
+use mathlib.Core.Path.{_≡_, refl, _∙_}
 use mathlib.Core.List.{List}
 use Prim.Native.Nat.{ℕ, _+_, _*_, _/_, _%_, _^_, _<_}
-use native.Mathlib.Nat.{add-zero, add-assoc, mod-lt}
+use native.Mathlib.Nat.{add-zero, add-assoc}
 use native.Mathlib.Omega.{arith}
-use native.Mathlib.Decide.{decLt}
-use lib.Bits.{bitXor, xor-zero-r, xor-self, xor-block, xor-shr, xor-mod}
+use lib.Bits.{bitXor}
 use lib.Dec.{lit<}
 use borrow.Author.Needs.{needs}
 use Rattle.lists.specs.Lists.{byte}
@@ -15,6 +14,7 @@ use Rattle.track.specs.Words.{wordAt, slots}
 use Rattle.track.specs.Records.{recordOf}
 use Rattle.track.specs.Frames.{frameSlot}
 use Rattle.track.proofs.Laying.{heard, framed}
+use Rattle.track.proofs.Flipped.{flipped-byte}
 use Rattle.track.proofs.lay8.full_frame.Statement.{statement}
 use Rattle.track.proofs.lay8.full_frame.Tie as tie
 
@@ -22,23 +22,9 @@ use Rattle.track.proofs.lay8.full_frame.Tie as tie
 abbrev Tops : ℕ
 Tops = 0x8080808080808080
 
--- a byte with its top bit flipped is 128 away
-flipped : (b : ℕ) → b < 256 → bitXor b 128 ≡ (b + 128) % 256
-flipped b l =
-    let e : b ≡ b / 128 * 2 ^ 7 + b % 128 = omega arith in
-    ap (λ (x : ℕ). bitXor x 128) e ∙ xor-block 7 (b / 128) 1 (b % 128) 0 (omega arith) (lit< tt)
-    ∙ elim (decLt b 128) [
-      | yes g ↦ (let z : b / 128 ≡ 0 = omega arith in rw (z, xor-zero-r (b % 128)) (omega arith))
-      | no g ↦ (let z : b / 128 ≡ 1 = omega arith in rw (z, xor-self 1, xor-zero-r (b % 128)) (omega arith))
-    ]
-
--- so 128 more is the byte again
+-- 128 more than a byte with its top bit flipped is the byte again
 centred-byte : (v k : ℕ) → Tops / 2 ^ k % 256 ≡ 128 → (bitXor v Tops / 2 ^ k % 256 + 128) % 256 ≡ v / 2 ^ k % 256
-centred-byte v k t =
-    let l : v / 2 ^ k % 256 < 256 = mod-lt (v / 2 ^ k) (lit< tt) in
-    let e : bitXor v Tops / 2 ^ k % 256 ≡ (v / 2 ^ k % 256 + 128) % 256 =
-    ap (λ (x : ℕ). x % 256) (xor-shr v Tops k) ∙ xor-mod (v / 2 ^ k) (Tops / 2 ^ k) 8 ∙ rw t (flipped (v / 2 ^ k % 256) l) in
-    rw e (omega arith)
+centred-byte v k t = rw (flipped-byte Tops v k t) (omega arith)
 
 module _ (d : List ℕ) (below : (i : ℕ) → byte d i < 256) (from : ℕ) where
   word-bytes : (w : ℕ) → w ≡ wordAt d from

@@ -1,9 +1,10 @@
--- A sample a turn, each in the part of the frame that it is lent.
+-- Two channels at once, or a sample a turn, each in the part of the frame that it is lent.
 use Prim.Native.Nat.{_-_}
 use native.Mathlib.Omega.{arith}
 use borrow.Author.Needs.{needs}
 use Rattle.samples.specs.declared.Format.the-variants.{Signed16}
 use Rattle.track_out.proofs.Taking.{Framing, frame-start, frame-next, frame-end}
+use Rattle.track_out.proofs.Runs.{run-for-count}
 use Rattle.track_out.proofs.out16.frame.Statement.{statement}
 use Rattle.track_out.proofs.out16.frame.Tie as tie
 
@@ -19,6 +20,10 @@ frame-spec =
     (tie.spec
     Inv
     μ
+    (λ c κs. search needs)
+    (λ c κs. search needs)
+    (λ c. search needs)
+    (λ c. search (run-for-count Signed16))
     (λ c. search (frame-start Signed16))
     (λ c. search needs)
     (λ c. search needs)

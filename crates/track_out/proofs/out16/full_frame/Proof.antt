@@ -1,7 +1,7 @@
--- Two runs, each in the part that it is lent.
+-- Words side by side, each in the part that it is lent.
 use borrow.Author.Needs.{needs}
 use Rattle.samples.specs.declared.Format.the-variants.{Signed16}
-use Rattle.track_out.proofs.Runs.{joined, eight-channels}
+use Rattle.track_out.proofs.Runs.{by-twos}
 use Rattle.track_out.proofs.out16.full_frame.Statement.{statement}
 use Rattle.track_out.proofs.out16.full_frame.Tie as tie
 
@@ -9,6 +9,14 @@ pub full-frame-spec : {M : Type 1} → statement M
 full-frame-spec =
     tie.close
     (tie.spec
+    (λ c κs. search needs)
+    (λ c κs. search needs)
+    (λ c κs. search needs)
+    (λ c κs. search needs)
+    (λ c. search needs)
+    (λ c. search needs)
+    (λ c. search needs)
+    (λ c κs. search needs)
     (λ c. search needs)
     (λ c. search needs)
     (λ c. search needs)
@@ -18,4 +26,8 @@ full-frame-spec =
     (λ c. search needs)
     (λ c κs. search needs)
     (λ c. search needs)
-    (λ c. search (eight-channels Signed16, joined Signed16 4 4)))
+    (λ c. search needs)
+    (λ c. search needs)
+    (λ c κs. search needs)
+    (λ c. search needs)
+    (λ c. search (by-twos Signed16)))

@@ -1,32 +1,21 @@
--- Two frames a turn, each in the part of the data that it is lent, and what is left.
-use Prim.Native.Nat.{_+_, _*_, _/_, _-_, _≤_}
+-- Two frames a turn, as a word in the part of the data that it is lent, and what is left.
+use Prim.Native.Nat.{_+_, _*_, _-_, _≤_}
 use native.Mathlib.Omega.{arith}
 use lib.ListN.{length}
 use borrow.Author.Needs.{needs}
 use Rattle.samples.specs.declared.Format.the-variants.{Signed16}
-use Rattle.track_out.proofs.Twos.{Twos, start, next, rest}
+use Rattle.track_out.proofs.Groups.{Groups, start, there, next, rest}
 use Rattle.track_out.proofs.out16.ones.Statement.{statement}
 use Rattle.track_out.proofs.out16.ones.Tie as tie
 
 abbrev Inv : tie.InvT-loop
-Inv track first frames out₀ at count k₀ from₀ a₀ out k from a = Twos Signed16 track (first * 24) count out₀ at out k from a
+Inv track first frames out₀ at count k₀ from₀ a₀ out k from a = Groups Signed16 2 1 track (first * 24) count out₀ at out k from a
 
 abbrev μ : tie.MeasureT-loop
 μ track first frames out₀ at count k₀ from₀ a₀ out k from a = count - k
 
--- there is room for all
-room : (c : tie.Start Inv μ) → c .args .at + c .args .frames / 2 * 4 ≤ length (c .args .out .now)
-room c = omega arith
-
-again : tie.Need-loop-again Inv μ
-again c =
-    let r = room (c .before .before .before .before .before .before .before .before) in
-    search (next Signed16)
-
-returns : tie.Need-returns Inv μ
-returns c =
-    let r = room (c .before .before .before .before .before .before .before .before) in
-    search (rest Signed16, needs)
+has : (c : tie.In-loop Inv μ) → c .before .loop .a + 4 ≤ length (c .before .before .before .before .args .out .now)
+has c = search (there Signed16 2 1)
 
 pub ones-spec : {M : Type 1} → statement M
 ones-spec =
@@ -35,18 +24,19 @@ ones-spec =
     Inv
     μ
     (λ c. search needs)
-    (λ c. search start)
+    (λ c. start _ _ _ _ _ _ _ _ (omega arith))
+    (λ c κs. omega arith)
+    (λ c. omega (arith, has (c .before)))
+    (λ c. search needs)
+    (λ c. search needs)
+    (λ c. omega (arith, has (c .before)))
+    (λ c κs. omega (arith, c .put4-arg .given .2))
     (λ c. search needs)
     (λ c. search needs)
     (λ c. search needs)
-    (λ c. search needs)
-    (λ c κs. (omega arith, omega (arith, c .two-frames-arg .given .2)))
-    (λ c. search needs)
-    (λ c. search needs)
-    (λ c. search needs)
-    again
+    (λ c. search (next Signed16 2 1))
     (λ c. search needs)
     (λ c. search needs)
     (λ c κs. (search needs, omega arith, omega arith))
     (λ c. search needs)
-    returns)
+    (λ c. search (rest Signed16 2 1, needs)))

@@ -1,7 +1,6 @@
--- Two samples, each in the part that it is lent.
+-- Two channels side by side.
 use borrow.Author.Needs.{needs}
-use Rattle.samples.specs.declared.Format.the-variants.{Signed16}
-use Rattle.track_out.proofs.Runs.{paired}
+use Rattle.track_out.proofs.Groups.{two-channels}
 use Rattle.track_out.proofs.out16.pair.Statement.{statement}
 use Rattle.track_out.proofs.out16.pair.Tie as tie
 
@@ -11,14 +10,6 @@ pair-spec =
     (tie.spec
     (λ c κs. search needs)
     (λ c. search needs)
-    (λ c. search needs)
-    (λ c. search needs)
     (λ c κs. search needs)
-    (λ c. search needs)
     (λ c κs. search needs)
-    (λ c. search needs)
-    (λ c. search needs)
-    (λ c. search needs)
-    (λ c κs. search needs)
-    (λ c. search needs)
-    (λ c. search (paired Signed16)))
+    (λ c. search two-channels))

@@ -1,6 +1,6 @@
--- Two samples as one of twice the size.
+-- A sample of each of two frames.
 use borrow.Author.Needs.{needs}
-use Rattle.track_out.proofs.Twos.{two-words}
+use Rattle.track_out.proofs.Groups.{two-frames}
 use Rattle.track_out.proofs.out16.two_frames.Statement.{statement}
 use Rattle.track_out.proofs.out16.two_frames.Tie as tie
 
@@ -11,8 +11,5 @@ two-frames-spec =
     (λ c κs. search needs)
     (λ c. search needs)
     (λ c κs. search needs)
-    (λ c. search needs)
-    (λ c. search needs)
     (λ c κs. search needs)
-    (λ c. search needs)
-    (λ c. search two-words))
+    (λ c. search two-frames))

@@ -1,7 +1,6 @@
--- Two runs, each in the part that it is lent.
+-- Four channels side by side.
 use borrow.Author.Needs.{needs}
-use Rattle.samples.specs.declared.Format.the-variants.{Unsigned8}
-use Rattle.track_out.proofs.Runs.{joined}
+use Rattle.track_out.proofs.Groups.{four-channels}
 use Rattle.track_out.proofs.out8.four.Statement.{statement}
 use Rattle.track_out.proofs.out8.four.Tie as tie
 
@@ -9,14 +8,12 @@ pub four-spec : {M : Type 1} → statement M
 four-spec =
     tie.close
     (tie.spec
-    (λ c. search needs)
-    (λ c. search needs)
+    (λ c κs. search needs)
     (λ c. search needs)
     (λ c κs. search needs)
     (λ c. search needs)
-    (λ c. search needs)
-    (λ c. search needs)
-    (λ c. search needs)
     (λ c κs. search needs)
     (λ c. search needs)
-    (λ c. search (joined Unsigned8 2 2)))
+    (λ c κs. search needs)
+    (λ c κs. search needs)
+    (λ c. search four-channels))

@@ -1,7 +1,7 @@
--- Two runs, each in the part that it is lent.
+-- Words side by side, each in the part that it is lent.
 use borrow.Author.Needs.{needs}
 use Rattle.samples.specs.declared.Format.the-variants.{Unsigned8}
-use Rattle.track_out.proofs.Runs.{joined, eight-channels}
+use Rattle.track_out.proofs.Runs.{by-fours}
 use Rattle.track_out.proofs.out8.full_frame.Statement.{statement}
 use Rattle.track_out.proofs.out8.full_frame.Tie as tie
 
@@ -9,13 +9,15 @@ pub full-frame-spec : {M : Type 1} → statement M
 full-frame-spec =
     tie.close
     (tie.spec
-    (λ c. search needs)
-    (λ c. search needs)
-    (λ c. search needs)
+    (λ c κs. search needs)
     (λ c κs. search needs)
     (λ c. search needs)
     (λ c. search needs)
     (λ c. search needs)
     (λ c κs. search needs)
     (λ c. search needs)
-    (λ c. search (eight-channels Unsigned8, joined Unsigned8 4 4)))
+    (λ c. search needs)
+    (λ c. search needs)
+    (λ c κs. search needs)
+    (λ c. search needs)
+    (λ c. search (by-fours Unsigned8)))

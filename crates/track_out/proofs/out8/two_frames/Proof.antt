@@ -1,6 +1,6 @@
--- Two samples as one of twice the size.
+-- Two samples of each of two frames.
 use borrow.Author.Needs.{needs}
-use Rattle.track_out.proofs.Twos.{two-bytes}
+use Rattle.track_out.proofs.Groups.{two-pairs}
 use Rattle.track_out.proofs.out8.two_frames.Statement.{statement}
 use Rattle.track_out.proofs.out8.two_frames.Tie as tie
 
@@ -9,10 +9,10 @@ two-frames-spec =
     tie.close
     (tie.spec
     (λ c κs. search needs)
+    (λ c κs. search needs)
     (λ c. search needs)
     (λ c κs. search needs)
     (λ c. search needs)
-    (λ c. search needs)
     (λ c κs. search needs)
-    (λ c. search needs)
-    (λ c. search two-bytes))
+    (λ c κs. search needs)
+    (λ c. search two-pairs))

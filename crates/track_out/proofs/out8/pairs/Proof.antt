@@ -1,0 +1,42 @@
+-- Two frames a turn, as a word in the part of the data that it is lent, and what is left.
+use Prim.Native.Nat.{_+_, _*_, _-_, _≤_}
+use native.Mathlib.Omega.{arith}
+use lib.ListN.{length}
+use borrow.Author.Needs.{needs}
+use Rattle.samples.specs.declared.Format.the-variants.{Unsigned8}
+use Rattle.track_out.proofs.Groups.{Groups, start, there, next, rest}
+use Rattle.track_out.proofs.out8.pairs.Statement.{statement}
+use Rattle.track_out.proofs.out8.pairs.Tie as tie
+
+abbrev Inv : tie.InvT-loop
+Inv track first frames out₀ at count k₀ from₀ a₀ out k from a = Groups Unsigned8 2 2 track (first * 24) count out₀ at out k from a
+
+abbrev μ : tie.MeasureT-loop
+μ track first frames out₀ at count k₀ from₀ a₀ out k from a = count - k
+
+has : (c : tie.In-loop Inv μ) → c .before .loop .a + 4 ≤ length (c .before .before .before .before .args .out .now)
+has c = search (there Unsigned8 2 2)
+
+pub pairs-spec : {M : Type 1} → statement M
+pairs-spec =
+    tie.close
+    (tie.spec
+    Inv
+    μ
+    (λ c. search needs)
+    (λ c. start _ _ _ _ _ _ _ _ (omega arith))
+    (λ c κs. omega arith)
+    (λ c. omega (arith, has (c .before)))
+    (λ c. search needs)
+    (λ c. search needs)
+    (λ c. omega (arith, has (c .before)))
+    (λ c κs. omega (arith, c .put4-arg .given .2))
+    (λ c. search needs)
+    (λ c. search needs)
+    (λ c. search needs)
+    (λ c. search (next Unsigned8 2 2))
+    (λ c. search needs)
+    (λ c. search needs)
+    (λ c κs. (search needs, omega arith, omega arith))
+    (λ c. search needs)
+    (λ c. search (rest Unsigned8 2 2, needs)))
