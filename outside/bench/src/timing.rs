@@ -29,10 +29,15 @@ impl Lent {
         Lent { track: bytes(RECORDS * RECORD + PAGE), out: vec![0; 1464 + PAGE], datagram, at: 0 }
     }
 
-    /// The track, the output and the datagram.
+    /// The track, the output and the datagram. The compiler is told nothing of them, and that once a sweep: at each call a slice's
+    /// pointer and length would be stored one by one and loaded as one, which takes longer than some of the calls.
     fn parts(&mut self) -> (&mut [u8], &mut [u8], &mut [u8]) {
         let at = self.at;
-        (&mut self.track[at..at + RECORDS * RECORD], &mut self.out[at..at + 1464], &mut self.datagram)
+        black_box((
+            &mut self.track[at..at + RECORDS * RECORD],
+            &mut self.out[at..at + 1464],
+            &mut self.datagram[..],
+        ))
     }
 }
 
@@ -109,7 +114,7 @@ pub fn accepted<S: Side>(shape: Shape) -> Sweep {
             side.reopen();
             for counter in 0..shape.packets() {
                 datagram[24..28].copy_from_slice(&counter.to_le_bytes());
-                answers |= side.follow(DESK, black_box(&*datagram), black_box(&mut *track), &mut laid);
+                answers |= side.follow(DESK, datagram, track, &mut laid);
             }
         }
         assert_eq!(answers, 0);
@@ -127,7 +132,7 @@ pub fn refused<S: Side>(address: u32, due: u8) -> Sweep {
         let (track, _, datagram) = lent.parts();
         let (mut same, mut laid) = (true, [0; 3]);
         for _ in 0..sweeps * CALLS {
-            same &= side.follow(address, black_box(&*datagram), black_box(&mut *track), &mut laid) == due;
+            same &= side.follow(address, datagram, track, &mut laid) == due;
         }
         assert!(same);
         sweeps * CALLS
@@ -138,11 +143,10 @@ pub fn refused<S: Side>(address: u32, due: u8) -> Sweep {
 pub fn cut<S: Side>(shape: Shape) -> Sweep {
     Box::new(move |sweeps, lent| {
         let (track, out, _) = lent.parts();
-        let (mut answers, mut written, form) = (0, 0, shape.form());
+        let (mut answers, mut written, form) = (0, 0, black_box(shape.form()));
         for _ in 0..sweeps {
             for k in 0..shape.packets() {
-                answers |=
-                    S::cut(black_box(&form), black_box(&*track), k, black_box(&mut *out), &mut written);
+                answers |= S::cut(&form, track, k, out, &mut written);
             }
         }
         assert_eq!(answers, 0);
@@ -156,6 +160,7 @@ fn clear(bytes: &mut [u8]) {
     for word in bytes.chunks_exact_mut(8) {
         word.copy_from_slice(&zero.to_le_bytes());
     }
+    black_box(bytes.as_mut_ptr());
 }
 
 /// The least that following does: as many bytes cleared as are written, at the same places.
@@ -165,7 +170,7 @@ pub fn cleared(shape: Shape) -> Sweep {
         let (track, _, _) = lent.parts();
         for _ in 0..sweeps {
             for k in 0..shape.packets() as usize {
-                clear(&mut black_box(&mut *track)[k * part..(k + 1) * part]);
+                clear(&mut track[k * part..(k + 1) * part]);
             }
         }
         sweeps * shape.packets() as usize
@@ -180,7 +185,8 @@ pub fn copied(shape: Shape) -> Sweep {
         for _ in 0..sweeps {
             for k in 0..shape.packets() as usize {
                 let from = (k * part).min(track.len() - length);
-                black_box(&mut *out)[..length].copy_from_slice(&black_box(&*track)[from..from + length]);
+                out[..length].copy_from_slice(&track[from..from + length]);
+                black_box(out.as_mut_ptr());
             }
         }
         sweeps * shape.packets() as usize

@@ -49,7 +49,7 @@ fn eight8(frame: &[u8; 8]) -> [u64; 3] {
 }
 
 fn lay8(channels: u16, data: &[u8], records: &mut [u8]) {
-    let from8 = |[byte]: [u8; 1]| u64::from(byte ^ 0x80) << 16;
+    let from8 = |[byte]: [u8; 1]| u64::from(byte) << 16 ^ 0x80_0000;
     match channels {
         1 => frames::<1>(data, records, |frame| slots(frame, from8)),
         2 => frames::<2>(data, records, |frame| slots(frame, from8)),

@@ -1,57 +1,49 @@
-//! Taking frames out of a track: a record is three words, and a slot a part of one or two.
+//! Taking frames out of a track: a slot by one load of four bytes, and samples stored as words.
+
+use std::array;
 
 use super::near;
 
-/// The slots of a record, each in the top 24 bits of a number, from its three words.
+/// A slot in the top 24 bits of a number. Its load takes the byte after it too; the last one's takes the byte before it.
 #[inline(always)]
-fn from_words(record: &[u8]) -> [i32; 8] {
-    let word = |at: usize| u64::from_le_bytes(record[at..at + 8].try_into().expect("eight bytes"));
-    let (x, y, z) = (word(0), word(8), word(16));
-    let parts = [x << 8, x >> 16, x >> 40 | y << 24, y, y >> 24, y >> 48 | z << 16, z >> 8, z >> 32];
-    parts.map(|part| (part as u32 & 0xFFFF_FF00) as i32)
-}
-
-/// The same, each from a load of its own.
-#[inline(always)]
-fn from_parts(record: &[u8]) -> [i32; 8] {
+fn slot(record: &[u8], slot: usize) -> i32 {
     let part = |at: usize| u32::from_le_bytes(record[at..at + 4].try_into().expect("four bytes"));
-    std::array::from_fn(|slot| match slot {
-        0 => (part(0) << 8) as i32,
-        _ => (part(3 * slot - 1) & 0xFFFF_FF00) as i32,
-    })
+    match slot {
+        7 => (part(20) & 0xFFFF_FF00) as i32,
+        _ => (part(3 * slot) << 8) as i32,
+    }
 }
 
-/// A frame a turn; which way to its slots is the faster goes by how many are wanted, and by their size.
+/// A frame a turn.
 #[inline(always)]
 fn frames<const SIZE: usize, const CHANNELS: usize>(
     records: &[u8],
     data: &mut [u8],
     sample: impl Fn(i32) -> [u8; SIZE],
 ) {
-    let apart = CHANNELS == 1 || SIZE == 4 && CHANNELS > 2;
     for (record, frame) in records.chunks_exact(24).zip(data.chunks_exact_mut(SIZE * CHANNELS)) {
-        let slots = if apart { from_parts(record) } else { from_words(record) };
-        for (to, slot) in frame.chunks_exact_mut(SIZE).zip(slots) {
-            to.copy_from_slice(&sample(slot));
+        for (at, to) in frame.chunks_exact_mut(SIZE).enumerate() {
+            to.copy_from_slice(&sample(slot(record, at)));
         }
     }
 }
 
-/// One channel, two frames a turn: two samples as a number of twice the size.
+/// As many frames a turn as make whole words of four bytes, each word by one store, and then the frames that are left.
 #[inline(always)]
-fn ones<const SIZE: usize, const BOTH: usize>(
+fn words<const BLOCK: usize, const WORDS: usize, const SIZE: usize, const CHANNELS: usize>(
     records: &[u8],
     data: &mut [u8],
+    word: impl Fn(&[u8; BLOCK], usize) -> u32,
     sample: impl Fn(i32) -> [u8; SIZE],
-    both: impl Fn([u8; SIZE], [u8; SIZE]) -> [u8; BOTH],
 ) {
-    let (twos, last) = records.split_at(records.len() / 48 * 48);
-    let (stored, left) = data.split_at_mut(twos.len() / 24 * SIZE);
-    for (to, two) in stored.chunks_exact_mut(BOTH).zip(twos.chunks_exact(48)) {
-        let [a, b] = [&two[..24], &two[24..]].map(|record| sample(from_parts(record)[0]));
-        to.copy_from_slice(&both(a, b));
+    let (blocks, last) = records.as_chunks::<BLOCK>();
+    let (stored, left) = data.split_at_mut(blocks.len() * WORDS * 4);
+    for (to, block) in stored.chunks_exact_mut(WORDS * 4).zip(blocks) {
+        for (at, to) in to.chunks_exact_mut(4).enumerate() {
+            to.copy_from_slice(&word(block, at).to_le_bytes());
+        }
     }
-    frames::<SIZE, 1>(last, left, sample);
+    frames::<SIZE, CHANNELS>(last, left, sample);
 }
 
 /// The nearest 8 bits, the even ones at a tie.
@@ -70,18 +62,33 @@ fn to32(slot: i32) -> [u8; 4] {
     slot.to_le_bytes()
 }
 
-/// A frame's bytes of 24 bits are the first of its record. So many frames as make three words are stored as these.
+/// Four samples of 8 bits in a word.
 #[inline(always)]
-fn out24<const BYTES: usize>(records: &[u8], data: &mut [u8], words: impl Fn(&[u8]) -> [u64; 3]) {
-    let each = 24 / BYTES * 24;
-    let (blocks, rest) = records.split_at(records.len() / each * each);
-    let (stored, left) = data.split_at_mut(blocks.len() / 24 * BYTES);
-    for (to, block) in stored.chunks_exact_mut(24).zip(blocks.chunks_exact(each)) {
-        for (part, word) in to.chunks_exact_mut(8).zip(words(block)) {
-            part.copy_from_slice(&word.to_le_bytes());
+fn four8(slots: [i32; 4]) -> u32 {
+    let [a, b, c, d] = slots.map(|slot| u32::from(to8(slot)[0]));
+    a | b << 8 | c << 16 | d << 24
+}
+
+/// Two of 16 bits: the second stands where it is stored.
+#[inline(always)]
+fn two16([a, b]: [i32; 2]) -> u32 {
+    near(a, 16) as u32 >> 16 | near(b, 16) as u32 & 0xFFFF_0000
+}
+
+/// A frame's bytes of 24 bits are the first of its record. Of a block of eight frames each is stored longer than it is: the next one goes
+/// over what is too much, and the first of the next block over what the last leaves.
+#[inline(always)]
+fn out24<const BYTES: usize, const STORED: usize, const BLOCK: usize>(records: &[u8], data: &mut [u8]) {
+    let (mut records, mut data) = (records, data);
+    while let (Some((block, after)), Some(to)) =
+        (records.split_first_chunk::<192>(), data.first_chunk_mut::<BLOCK>())
+    {
+        for (at, record) in block.chunks_exact(24).enumerate() {
+            to[BYTES * at..BYTES * at + STORED].copy_from_slice(&record[..STORED]);
         }
+        (records, data) = (after, &mut data[8 * BYTES..]);
     }
-    bytes24::<BYTES>(rest, left);
+    bytes24::<BYTES>(records, data);
 }
 
 #[inline(always)]
@@ -89,27 +96,6 @@ fn bytes24<const BYTES: usize>(records: &[u8], data: &mut [u8]) {
     for (record, frame) in records.chunks_exact(24).zip(data.chunks_exact_mut(BYTES)) {
         frame.copy_from_slice(&record[..BYTES]);
     }
-}
-
-/// The first words of records, with what is beyond a frame cut off.
-#[inline(always)]
-fn firsts<const COUNT: usize>(block: &[u8], bits: u32) -> [u64; COUNT] {
-    std::array::from_fn(|at| {
-        let word = u64::from_le_bytes(block[24 * at..24 * at + 8].try_into().expect("eight bytes"));
-        word & (u64::MAX >> (64 - bits))
-    })
-}
-
-#[inline(always)]
-fn one24(block: &[u8]) -> [u64; 3] {
-    let [a, b, c, d, e, f, g, h] = firsts(block, 24);
-    [a | b << 24 | c << 48, c >> 16 | d << 8 | e << 32 | f << 56, f >> 8 | g << 16 | h << 40]
-}
-
-#[inline(always)]
-fn two24(block: &[u8]) -> [u64; 3] {
-    let [a, b, c, d] = firsts(block, 48);
-    [a | b << 48, b >> 16 | c << 32, c >> 32 | d << 16]
 }
 
 /// The two slots in a word's lowest six bytes, as samples of 32 bits in a word.
@@ -162,14 +148,43 @@ macro_rules! by_channels {
 
 pub fn take_out(format: u8, channels: u16, records: &[u8], data: &mut [u8]) {
     match (format, channels) {
-        (0, 1) => ones(records, data, to8, |[a], [b]| (u16::from(a) | u16::from(b) << 8).to_le_bytes()),
-        (1, 1) => ones(records, data, to16, |a, b| {
-            (u32::from(u16::from_le_bytes(a)) | u32::from(u16::from_le_bytes(b)) << 16).to_le_bytes()
-        }),
+        (0, 1) => words::<96, 1, 1, 1>(
+            records,
+            data,
+            |block, _| four8(array::from_fn(|at| slot(&block[24 * at..], 0))),
+            to8,
+        ),
+        (0, 2) => words::<48, 1, 1, 2>(
+            records,
+            data,
+            |block, _| four8(array::from_fn(|at| slot(&block[24 * (at / 2)..], at % 2))),
+            to8,
+        ),
+        (0, 8) => words::<24, 2, 1, 8>(
+            records,
+            data,
+            |record, word| four8(array::from_fn(|at| slot(record, 4 * word + at))),
+            to8,
+        ),
         (0, _) => by_channels!(channels, records, data, 1, to8),
+        (1, 1) => words::<48, 1, 2, 1>(
+            records,
+            data,
+            |block, _| two16(array::from_fn(|at| slot(&block[24 * at..], 0))),
+            to16,
+        ),
+        (1, 2) => {
+            words::<24, 1, 2, 2>(records, data, |record, _| two16([slot(record, 0), slot(record, 1)]), to16)
+        }
+        (1, 8) => words::<24, 4, 2, 8>(
+            records,
+            data,
+            |record, word| two16([slot(record, 2 * word), slot(record, 2 * word + 1)]),
+            to16,
+        ),
         (1, _) => by_channels!(channels, records, data, 2, to16),
-        (2, 1) => out24::<3>(records, data, one24),
-        (2, 2) => out24::<6>(records, data, two24),
+        (2, 1) => out24::<3, 4, 25>(records, data),
+        (2, 2) => out24::<6, 8, 50>(records, data),
         (2, 3) => bytes24::<9>(records, data),
         (2, 4) => bytes24::<12>(records, data),
         (2, 5) => bytes24::<15>(records, data),
