@@ -15,9 +15,12 @@ LOGS = ROOT / "target" / "must-fail"
 
 def refused(crate, log):
     """The functions and laws that a log refuses for a fact of their own."""
-    functions = re.findall(rf"^fn {crate}::(\S+): (?:not proved|no proof: .*does not close [^;\n]*)$", log, re.M)
-    laws = re.findall(r"^\S+:\d+:\d+: error: `([^`]+)`: (.*)$", log, re.M)
-    return set(functions) | {name for name, said in laws if "was not admitted" not in said}
+    found = set(re.findall(rf"^fn {crate}::(\S+): no proof: .*does not close [^;\n]*$", log, re.M))
+    for path, name, said in re.findall(r"/proofs/(\S+)\.antt:\d+:\d+: error: `([^`]+)`: (.*)$", log, re.M):
+        if "was not admitted" not in said:
+            # A function's proof is the file Proof in its folder; laws stand in other files.
+            found.add(path.removesuffix("/Proof").replace("/", "::") if path.endswith("/Proof") else name)
+    return found
 
 
 def faults(edit):

@@ -1,6 +1,6 @@
 -- A sample's bits spell one of its type's numbers, each number has bits of its own, and what a slot holds and a sample sent stands
 -- for is the definition's. Over the width.
-use mathlib.Core.Path.{_≡_, refl, ap, _∙_, subst}
+use mathlib.Core.Path.{_≡_, refl, sym, ap, _∙_, subst}
 use mathlib.Core.Bool.{true, false≢true}
 use Prim.Native.Nat.{ℕ, suc, _+_, _-_, _*_, _%_, _^_, _≤_, _<_}
 use native.Mathlib.Nat.{mod-lt, mod-eq-of-lt, add-mod-right}
@@ -158,6 +158,11 @@ module _ (f : Format) (s : ℕ) (l : s < 2 ^ 24) where
   pub sent-slot : slotOf f (sentOf f s) ≡ bitsOf 24 (carried f (signedOf 24 s))
   unfolding slotOf carried
   sent-slot = rw sent-number
+
+-- a byte sent is the place of the slot's number among the bytes
+pub byte-sent : (s : ℕ) → rescaled 24 8 (rank 8388608 (signedOf 24 s)) ≡ sentOf Unsigned8 s
+unfolding sentOf converted
+byte-sent s = sym (ap natAbs (byte-at (rescaled 24 8 (rank 8388608 (signedOf 24 s)))))
 
 -- a 24-bit sample is the slot
 pub same-bits : (u : ℕ) → u < 2 ^ 24 → bitsOf 24 (converted Signed24 Signed24 (signedOf 24 u)) ≡ u

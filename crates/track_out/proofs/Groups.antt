@@ -14,6 +14,7 @@ use Rattle.samples.specs.declared.Format.the-variants.{Unsigned8, Signed16, Sig
 use Rattle.samples.specs.Formats.{sizeOf}
 use Rattle.track.specs.Bytes.{sampleBytes}
 use Rattle.track.specs.Records.{takenOf}
+use Rattle.track.proofs.Packing.{cons}
 use Rattle.track.proofs.Flipped.{flipped-byte}
 use Rattle.track_out.specs.Frames.{sentAt, frameOut, framesOut, runOut}
 use Rattle.track_out.proofs.Taking.{frames-length, frames-joined, taken-frames}
@@ -21,13 +22,7 @@ use Rattle.track_out.proofs.Taking.{frames-length, frames-joined, taken
 -- ---- four bytes as one word
 
 pub two-halves : (a b r : ℕ) → a < 65536 → r ≡ a + b * 65536 → sampleBytes Signed32 r ≡ sampleBytes Signed16 a ++ sampleBytes Signed16 b
-two-halves a b r h e =
-    let w : (a + b * 65536) % 256 ≡ a % 256 = omega arith in
-    let d : (a + b * 65536) / 256 ≡ a / 256 + b * 256 = omega arith in
-    let x : (a + b * 65536) / 256 % 256 ≡ a / 256 = rw d (omega arith) in
-    let c : (a + b * 65536) / 65536 ≡ b = omega arith in
-    let z : (a + b * 65536) / 16777216 ≡ b / 256 = omega arith in
-    rw (e, w, x, c, z)
+two-halves a b r h e = rw e (cons (omega arith) (cons (omega arith) (cons (omega arith) (cons (omega arith) refl))))
 
 digits : (a b c d n : ℕ) → a < 256 → b < 256 → c < 256 → n ≡ a + b * 256 + c * 65536 + d * 16777216
     → (n / 1 % 256 ≡ a) × (n / 256 % 256 ≡ b) × (n / 65536 % 256 ≡ c) × (n / 16777216 ≡ d)

@@ -1,5 +1,5 @@
 -- The number rescaled and 128 added is its place.
-use mathlib.Core.Path.{_≡_, sym, ap, _∙_}
+use mathlib.Core.Path.{_≡_, ap, _∙_}
 use Prim.Native.Nat.{ℕ, _+_, _*_, _^_, _<_}
 use native.Mathlib.Omega.{arith}
 use lib.Dec.{T, lit≤, lit<}
@@ -10,12 +10,12 @@ use mir.Val.{Fits, SFits}
 use mir.Facts.{toZ-ofZ}
 use borrow.Author.Needs.{needs}
 use Rattle.samples.specs.declared.Format.the-variants.{Unsigned8}
-use Rattle.samples.specs.Convert.{rank, rescaled, converted}
+use Rattle.samples.specs.Convert.{rank, rescaled}
 use Rattle.samples.specs.Wire.{signedOf, sentOf}
 use Rattle.samples.proofs.Machine.{Int}
 use Rattle.samples.proofs.Places.{rank-lt, sub-le, plus}
 use Rattle.samples.proofs.Rescaled.{rescaled-lt}
-use Rattle.samples.proofs.Bits.{signed-mag}
+use Rattle.samples.proofs.Bits.{signed-mag, byte-sent}
 use Rattle.samples.proofs.Aligned.{aligned}
 use Rattle.samples.proofs.Moves.{bits8, bits32, there}
 use Rattle.samples.proofs.slots.to_unsigned8.Statement.{statement}
@@ -51,10 +51,7 @@ module _ (s : ℕ) (h : s < 2 ^ 24) where
     whole = rw number (tt, record { fits = omega (arith, below) })
 
     sent : (natAbs (Int (Int r +ℤ pos 128)) ≡ sentOf Unsigned8 s) × (natAbs (Int (Int r +ℤ pos 128)) < 2 ^ 8)
-    unfolding sentOf converted
-    sent =
-        let w = rescaled 24 8 (rank 8388608 (signedOf 24 s)) in
-        rw number (aligned s 8 h (lit< tt) ∙ sym (ap natAbs (sub-le w 0 (omega arith)) ∙ omega arith), below)
+    sent = rw number (aligned s 8 h (lit< tt) ∙ byte-sent s, below)
 
 start : (c : tie.After-rescale) → Int (c .rescale .result) ≡ subℕ (y (c .before .before .args .s) (c .before .before .pre)) 128
 start c =
