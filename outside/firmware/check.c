@@ -466,9 +466,9 @@ static void following(uint32_t address, uint8_t due, int line)
     uint32_t before[256];
     counts(before);
     keep(&heard), keep(&take), keep(&track);
-    uint64_t *three = lend(&laid, 3 * sizeof(uint64_t), 0);
+    tashmirok_laid *told = lend(&laid, sizeof *told, 0);
     uint8_t answer = tashmirok_follow(the_take(), the_tally(), address, bytes(&heard), heard.length,
-                                      bytes(&track), track.length, three);
+                                      bytes(&track), track.length, told);
     expect(answer == due, "the answer of following", line);
     expect(raised(before, due), "one count raised", line);
     expect(stays(&heard) && within(&take) && within(&track) && within(&laid), "bytes around those lent", line);
@@ -492,8 +492,8 @@ static void hear_changed(size_t at, uint8_t byte)
 
 static int was_laid(uint64_t place, uint64_t frames, uint64_t skipped)
 {
-    const uint64_t due[3] = {place, frames, skipped};
-    return memcmp(bytes(&laid), due, sizeof due) == 0;
+    const tashmirok_laid due = {place, frames, skipped, {0}};
+    return memcmp(bytes(&laid), &due, sizeof due) == 0;
 }
 
 static void begin(size_t length)

@@ -79,14 +79,22 @@ size_t tashmirok_tally_size(void);
 uint8_t tashmirok_open(tashmirok_take *take, const uint8_t name[16], uint32_t address,
                        uint8_t *track, size_t track_length);
 
+/* What following tells of a packet that is accepted. Later versions name more of its words. */
+typedef struct tashmirok_laid {
+    uint64_t place;     /* the first frame's place in the track */
+    uint64_t frames;    /* the number of frames */
+    uint64_t skipped;   /* the packets skipped before it */
+    uint64_t spare[5];  /* zero */
+} tashmirok_laid;
+
 /* Follows one datagram of any length from an address. Where it is accepted, its frames are laid into the track and
  * the take goes on; hand in the track that the take was opened on. One count of the tally is raised, the answer's,
  * which holds at 4,294,967,295.
- * Gives laid: the first frame's place in the track, the number of frames, and the packets skipped before it.
+ * Gives laid.
  * Answers: 16, then 1 to 15 in order, else 0. */
 uint8_t tashmirok_follow(tashmirok_take *take, tashmirok_tally *tally, uint32_t address,
                          const uint8_t *datagram, size_t length,
-                         uint8_t *track, size_t track_length, uint64_t laid[3]);
+                         uint8_t *track, size_t track_length, tashmirok_laid *laid);
 
 /* Sets every count of a tally to 0. One that was never cleared counts on from whatever stood there. */
 void tashmirok_clear_tally(tashmirok_tally *tally);

@@ -25,6 +25,14 @@ numberOf Late = 14
 numberOf Beyond = 15
 numberOf State = 16
 
+-- how many counts the house tally has (document 01, "Following a take": "one count for each answer 0 to 16")
+abbrev pub countsKept : ℕ
+countsKept = 17
+
+-- where the count of an answer's number stands; a number with none is past the last
+abbrev pub countOf : ℕ → ℕ
+countOf number = number
+
 -- writing, cutting and converting
 abbrev pub numberMade : Made → ℕ
 numberMade Done = 0

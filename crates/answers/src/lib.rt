@@ -1,6 +1,6 @@
 // The numbers the bench sees: what every operation answers, and the paper's number of each answer.
 ghost use mathlib.Core.Path.{_≡_};
-ghost use Rattle.answers.specs.Numbers.{numberOf, numberMade};
+ghost use Rattle.answers.specs.Numbers.{numberOf, numberMade, countOf};
 
 // What reading, opening and following answer.
 pub enum Answer {
@@ -56,6 +56,16 @@ pub fn number(a: Answer) -> u8
         Answer::Beyond => 15,
         Answer::State => 16,
     }
+}
+
+// How many counts the house tally has.
+pub const COUNTS: usize = 17;
+
+// Where the count of an answer's number stands in the house tally; past its end where no count is kept for the number.
+pub fn count(number: u8) -> usize
+    ensures { λ r. ⌜ r ≡ countOf number ⌝ }
+{
+    number as usize
 }
 
 pub fn number_made(m: Made) -> u8

@@ -3,7 +3,8 @@ ghost use mathlib.Core.Path.{_≡_};
 ghost use Prim.Native.Nat.{_^_, _<_};
 ghost use lib.ListN.{length as listLength};
 ghost use Rattle.cutlist.specs.Block.{Filled};
-use wire::header::Header;
+use capture_rules::RECORD;
+use wire_rules::Header;
 
 // The records of packets k, k + 1, .. until the block is full or the packets are all cut; how many there are.
 pub fn fill(header: Header, track: &[u8], k: u32, address: u32, block: &mut [u8]) -> usize
@@ -12,8 +13,8 @@ pub fn fill(header: Header, track: &[u8], k: u32, address: u32, block: &mut [u8]
 {
     let mut n = 0;
     while n < 44 {
-        let a = n * 1472;
-        let e = a + 1472;
+        let a = n * RECORD;
+        let e = a + RECORD;
         let made = capture::cut(header, track, k + n as u32, address, &mut block[a..e]);
         let answer = made.answer;
         if answers::number_made(answer) != 0 {

@@ -2,7 +2,8 @@
 ghost use mathlib.Core.Path.{_≡_};
 ghost use lib.ListN.{length as listLength};
 use answers::Made;
-use wire::header::Header;
+use capture_rules::RECORD;
+use wire_rules::Header;
 
 mod block;
 
@@ -20,7 +21,7 @@ fn write_packets(header: Header, address: u32, track: &[u8], block: &mut [u8], f
     let mut k = 0;
     while k < 2048 {
         let n = block::fill(header, track, k, address, block);
-        let end = n * 1472;
+        let end = n * RECORD;
         if !files::append(file, b"cut.cap", &block[..end]) {
             return;
         }
@@ -32,7 +33,7 @@ fn write_packets(header: Header, address: u32, track: &[u8], block: &mut [u8], f
 }
 
 fn write_capture(header: Header, address: u32, track: &[u8]) {
-    let mut record = [0u8; 1472];
+    let mut record = [0u8; RECORD];
     let first = capture::cut(header, track, 0, address, &mut record);
     let answer = first.answer;
     if answers::number_made(answer) != 0 {

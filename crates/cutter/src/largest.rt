@@ -2,15 +2,11 @@
 ghost use mathlib.Core.Path.{_≡_};
 ghost use Prim.Native.Nat.{_*_, _≤_};
 ghost use lib.Dec.{ltb};
-ghost use Rattle.samples.specs.Formats.{sizeAt};
-ghost use Rattle.cutter.specs.Largest.{largestFrames, largestOf};
+ghost use Rattle.formats.specs.Formats.{sizeAt};
+ghost use Rattle.cutter_rules.specs.Largest.{largestFrames, largestOf};
 use answers::Made;
-use samples::Format;
-
-pub struct LargestAnswer {
-    pub answer: Made,
-    pub frames: u16,
-}
+use cutter_rules::Largest;
+use formats::Format;
 
 // The bytes of a frame.
 fn frame_bytes(format: u8, channels: u16) -> usize
@@ -27,7 +23,7 @@ fn frames(format: u8, channels: u16) -> u16
     if bytes == 0 {
         return 0;
     }
-    let n = 1436 / bytes;
+    let n = wire_rules::DATA_MOST / bytes;
     if n > 256 {
         return 256;
     }
@@ -40,26 +36,26 @@ pub(crate) fn is_over(frames: u16, format: u8, channels: u16) -> bool
     ensures { λ r. ⌜ r ≡ ltb (largestFrames format channels) frames ⌝ }
 {
     let bytes = frame_bytes(format, channels);
-    frames as usize * bytes > 1436
+    frames as usize * bytes > wire_rules::DATA_MOST
 }
 
 // The most frames that a packet of the type and the channels can have.
-pub fn largest(format: u8, channels: u16) -> LargestAnswer
+pub fn largest(format: u8, channels: u16) -> Largest
     ensures { λ r. ⌜ r ≡ largestOf format channels ⌝ }
 {
     if !Format::may_send(format) {
-        return LargestAnswer {
+        return Largest {
             answer: Made::Form,
             frames: 0,
         };
     }
     if lists::is_outside(channels, 256) {
-        return LargestAnswer {
+        return Largest {
             answer: Made::Form,
             frames: 0,
         };
     }
-    LargestAnswer {
+    Largest {
         answer: Made::Done,
         frames: frames(format, channels),
     }

@@ -1,11 +1,11 @@
 // Which frames go into which packet.
 ghost use mathlib.Core.Path.{_≡_};
 ghost use Prim.Native.Nat.{_*_};
-ghost use Rattle.cutter.specs.Schedule.{scheduleOf};
-ghost use Rattle.cutter.specs.Cut.{badNumber};
+ghost use Rattle.cutter_rules.specs.Schedule.{scheduleOf};
+ghost use Rattle.cutter_rules.specs.Cut.{badNumber};
 
 // The first frame of packet `k`.
-pub(crate) fn first(n: u16, k: u32) -> usize
+pub(crate) fn from(n: u16, k: u32) -> usize
     ensures { λ r. ⌜ r ≡ k * n ⌝ }
 {
     k as usize * n as usize
@@ -15,11 +15,11 @@ pub(crate) fn first(n: u16, k: u32) -> usize
 pub(crate) fn count(frames: usize, n: u16, k: u32) -> u16
     ensures { λ r. ⌜ r ≡ scheduleOf frames n .count k ⌝ }
 {
-    let from = first(n, k);
-    if frames <= from {
+    let start = from(n, k);
+    if frames <= start {
         return 0;
     }
-    let left = frames - from;
+    let left = frames - start;
     if left < n as usize {
         return left as u16;
     }
@@ -33,8 +33,8 @@ pub(crate) fn bad_number(frames: usize, n: u16, k: u32) -> bool
     if frames == 0 {
         return true;
     }
-    if frames > first(n, 0x8000_0000) {
+    if frames > from(n, 0x8000_0000) {
         return true;
     }
-    frames <= first(n, k)
+    frames <= from(n, k)
 }

@@ -1,3 +1,2 @@
-pub mod Keeping
 pub mod Following
-pub mod Back
+pub mod Counts

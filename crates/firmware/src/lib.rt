@@ -1,28 +1,25 @@
 // The box's face for C: every function answers document 01's number, and zeros in what it writes beside a refusal.
 ghost use mathlib.Core.Path.{_≡_};
 ghost use Rattle.answers.specs.Numbers.{numberOf, numberMade};
-ghost use Rattle.samples.specs.Convert.{convertOf};
-ghost use Rattle.wire.specs.Rates.{rateOf};
-ghost use Rattle.wire.specs.Read.{readOf};
-ghost use Rattle.wire.specs.Write.{writeOf, outputOf};
-ghost use Rattle.take.specs.Take.{openOf, openedTrack};
-ghost use Rattle.take.specs.Tally.{cleared, raisedOf};
-ghost use Rattle.take.specs.Follow.{followedTrack};
-ghost use Rattle.cutter.specs.Largest.{largestOf};
-ghost use Rattle.cutter.specs.Cut.{cutOf, cutOutput};
-ghost use Rattle.recorder.specs.Answered.{tallyOf};
-ghost use Rattle.firmware.specs.Kept.{takeBytes, takeOf};
+ghost use Rattle.sample_rules.specs.Convert.{convertOf};
+ghost use Rattle.wire_rules.specs.Rates.{rateOf};
+ghost use Rattle.wire_rules.specs.Read.{readOf};
+ghost use Rattle.wire_rules.specs.Write.{writeOf, outputOf};
+ghost use Rattle.take_rules.specs.Take.{openOf, openedTrack};
+ghost use Rattle.take_rules.specs.Follow.{followedTrack};
+ghost use Rattle.take_rules.specs.Tally.{tallyOf, cleared, raisedOf};
+ghost use Rattle.cutter_rules.specs.Largest.{largestOf};
+ghost use Rattle.cutter_rules.specs.Cut.{cutOf, cutOutput};
+ghost use Rattle.kept.specs.Kept.{takeBytes, takeOf};
 ghost use Rattle.firmware.specs.Face.{fieldsOf, headerFrom, followedFor, laidFor, keptAfter, countFor};
 use answers::Answer;
-use wire::header::Header;
-
-mod kept;
+use wire_rules::Header;
 
 // The rate of an index, in Hz.
 #[no_mangle]
 pub extern "C" fn tashmirok_rate(index: u8, hertz: &mut u32) -> u8
-    ensures { λ r. ⌜ r ≡ numberOf (rateOf index .answer) ⌝ }
-    ensures { λ _. ⌜ now (hertz .exit) ≡ rateOf index .hertz ⌝ }
+    ensures answer { λ r. ⌜ r ≡ numberOf (rateOf index .answer) ⌝ }
+    ensures hertz { λ _. ⌜ now (hertz .exit) ≡ rateOf index .hertz ⌝ }
 {
     let rated = recorder::rate(index);
     let answer = rated.answer;
@@ -33,8 +30,8 @@ pub extern "C" fn tashmirok_rate(index: u8, hertz: &mut u32) -> u8
 // One number of a type as a number of another.
 #[no_mangle]
 pub extern "C" fn tashmirok_convert(from: u8, to: u8, number: i64, converted: &mut i64) -> u8
-    ensures { λ r. ⌜ r ≡ numberMade (convertOf from to number .answer) ⌝ }
-    ensures { λ _. ⌜ now (converted .exit) ≡ convertOf from to number .value ⌝ }
+    ensures answer { λ r. ⌜ r ≡ numberMade (convertOf from to number .answer) ⌝ }
+    ensures converted { λ _. ⌜ now (converted .exit) ≡ convertOf from to number .value ⌝ }
 {
     let made = recorder::convert(from, to, number);
     let answer = made.answer;
@@ -51,10 +48,10 @@ pub extern "C" fn tashmirok_read(
     name: &mut [u8; 16],
     size: &mut usize,
 ) -> u8
-    ensures { λ r. ⌜ r ≡ numberOf (readOf (now (datagram .entry)) .answer) ⌝ }
-    ensures { λ _. ⌜ now (fields .exit) ≡ fieldsOf (readOf (now (datagram .entry)) .header) ⌝ }
-    ensures { λ _. ⌜ now (name .exit) ≡ readOf (now (datagram .entry)) .header .name ⌝ }
-    ensures { λ _. ⌜ now (size .exit) ≡ readOf (now (datagram .entry)) .size ⌝ }
+    ensures answer { λ r. ⌜ r ≡ numberOf (readOf (now (datagram .entry)) .answer) ⌝ }
+    ensures fields { λ _. ⌜ now (fields .exit) ≡ fieldsOf (readOf (now (datagram .entry)) .header) ⌝ }
+    ensures name { λ _. ⌜ now (name .exit) ≡ readOf (now (datagram .entry)) .header .name ⌝ }
+    ensures size { λ _. ⌜ now (size .exit) ≡ readOf (now (datagram .entry)) .size ⌝ }
 {
     let read = recorder::read(datagram);
     let h = read.header;
@@ -85,9 +82,9 @@ pub extern "C" fn tashmirok_write(
     out: &mut [u8],
     written: &mut usize,
 ) -> u8
-    ensures { λ r. ⌜ r ≡ numberMade (writeOf (headerFrom rate frames channels format (now (name .entry)) counter) (now (samples .entry)) (now (out .entry)) .answer) ⌝ }
-    ensures { λ _. ⌜ now (out .exit) ≡ outputOf (headerFrom rate frames channels format (now (name .entry)) counter) (now (samples .entry)) (now (out .entry)) ⌝ }
-    ensures { λ _. ⌜ now (written .exit) ≡ writeOf (headerFrom rate frames channels format (now (name .entry)) counter) (now (samples .entry)) (now (out .entry)) .length ⌝ }
+    ensures answer { λ r. ⌜ r ≡ numberMade (writeOf (headerFrom rate frames channels format (now (name .entry)) counter) (now (samples .entry)) (now (out .entry)) .answer) ⌝ }
+    ensures output { λ _. ⌜ now (out .exit) ≡ outputOf (headerFrom rate frames channels format (now (name .entry)) counter) (now (samples .entry)) (now (out .entry)) ⌝ }
+    ensures written { λ _. ⌜ now (written .exit) ≡ writeOf (headerFrom rate frames channels format (now (name .entry)) counter) (now (samples .entry)) (now (out .entry)) .length ⌝ }
 {
     let name = *name;
     let header = Header {
@@ -107,8 +104,8 @@ pub extern "C" fn tashmirok_write(
 // The most frames that a packet of a type and channels can have.
 #[no_mangle]
 pub extern "C" fn tashmirok_largest(format: u8, channels: u16, frames: &mut u16) -> u8
-    ensures { λ r. ⌜ r ≡ numberMade (largestOf format channels .answer) ⌝ }
-    ensures { λ _. ⌜ now (frames .exit) ≡ largestOf format channels .frames ⌝ }
+    ensures answer { λ r. ⌜ r ≡ numberMade (largestOf format channels .answer) ⌝ }
+    ensures frames { λ _. ⌜ now (frames .exit) ≡ largestOf format channels .frames ⌝ }
 {
     let largest = recorder::largest(format, channels);
     *frames = largest.frames;
@@ -130,9 +127,9 @@ pub extern "C" fn tashmirok_cut(
     out: &mut [u8],
     written: &mut usize,
 ) -> u8
-    ensures { λ r. ⌜ r ≡ numberMade (cutOf (headerFrom rate frames channels format (now (name .entry)) start) (now (track .entry)) k (now (out .entry)) .answer) ⌝ }
-    ensures { λ _. ⌜ now (out .exit) ≡ cutOutput (headerFrom rate frames channels format (now (name .entry)) start) (now (track .entry)) k (now (out .entry)) ⌝ }
-    ensures { λ _. ⌜ now (written .exit) ≡ cutOf (headerFrom rate frames channels format (now (name .entry)) start) (now (track .entry)) k (now (out .entry)) .length ⌝ }
+    ensures answer { λ r. ⌜ r ≡ numberMade (cutOf (headerFrom rate frames channels format (now (name .entry)) start) (now (track .entry)) k (now (out .entry)) .answer) ⌝ }
+    ensures output { λ _. ⌜ now (out .exit) ≡ cutOutput (headerFrom rate frames channels format (now (name .entry)) start) (now (track .entry)) k (now (out .entry)) ⌝ }
+    ensures written { λ _. ⌜ now (written .exit) ≡ cutOf (headerFrom rate frames channels format (now (name .entry)) start) (now (track .entry)) k (now (out .entry)) .length ⌝ }
 {
     let header = Header {
         rate,
@@ -154,7 +151,7 @@ pub extern "C" fn tashmirok_cut(
 pub extern "C" fn tashmirok_take_size() -> usize
     ensures { λ r. ⌜ r ≡ 40 ⌝ }
 {
-    40
+    kept::SIZE
 }
 
 // How many bytes a tally has.
@@ -180,8 +177,8 @@ pub extern "C" fn tashmirok_clear_tally(tally: &mut [u32; 17])
 pub extern "C" fn tashmirok_count(tally: &[u32; 17], number: u8) -> u32
     ensures { λ r. ⌜ r ≡ countFor (now (tally .entry)) number ⌝ }
 {
-    let i = number as usize;
-    if i < 17 { tally[i] } else { 0 }
+    let i = answers::count(number);
+    if i < answers::COUNTS { tally[i] } else { 0 }
 }
 
 // A take for a name and a sender's address, on a lent track.
@@ -192,9 +189,9 @@ pub extern "C" fn tashmirok_open(
     address: u32,
     track: &mut [u8],
 ) -> u8
-    ensures { λ r. ⌜ r ≡ numberOf (openOf (now (name .entry)) address .answer) ⌝ }
-    ensures { λ _. ⌜ now (kept .exit) ≡ takeBytes (openOf (now (name .entry)) address .take) ⌝ }
-    ensures { λ _. ⌜ now (track .exit) ≡ openedTrack (now (name .entry)) (now (track .entry)) ⌝ }
+    ensures answer { λ r. ⌜ r ≡ numberOf (openOf (now (name .entry)) address .answer) ⌝ }
+    ensures take { λ _. ⌜ now (kept .exit) ≡ takeBytes (openOf (now (name .entry)) address .take) ⌝ }
+    ensures track { λ _. ⌜ now (track .exit) ≡ openedTrack (now (name .entry)) (now (track .entry)) ⌝ }
 {
     let opened = recorder::open(*name, address, track);
     let take = opened.take;
@@ -222,32 +219,37 @@ pub extern "C" fn tashmirok_follow(
     address: u32,
     datagram: &[u8],
     track: &mut [u8],
-    laid: &mut [u64; 3],
+    laid: &mut [u64; 8],
 ) -> u8
-    ensures { λ r. ⌜ r ≡ numberOf (followedFor (now (kept .entry)) (now (tally .entry)) address (now (datagram .entry)) (now (track .entry)) .answer) ⌝ }
-    ensures { λ _. ⌜ now (laid .exit) ≡ laidFor (followedFor (now (kept .entry)) (now (tally .entry)) address (now (datagram .entry)) (now (track .entry))) ⌝ }
-    ensures { λ _. ⌜ now (kept .exit) ≡ keptAfter (now (kept .entry)) (followedFor (now (kept .entry)) (now (tally .entry)) address (now (datagram .entry)) (now (track .entry))) ⌝ }
-    ensures { λ _. ⌜ now (tally .exit) ≡ followedFor (now (kept .entry)) (now (tally .entry)) address (now (datagram .entry)) (now (track .entry)) .tally .counts ⌝ }
-    ensures { λ _. ⌜ now (track .exit) ≡ followedTrack (takeOf (now (kept .entry))) address (now (datagram .entry)) (now (track .entry)) ⌝ }
+    ensures answer { λ r. ⌜ r ≡ numberOf (followedFor (now (kept .entry)) (now (tally .entry)) address (now (datagram .entry)) (now (track .entry)) .followed .told .answer) ⌝ }
+    ensures laid { λ _. ⌜ now (laid .exit) ≡ laidFor (followedFor (now (kept .entry)) (now (tally .entry)) address (now (datagram .entry)) (now (track .entry)) .followed .told) ⌝ }
+    ensures take { λ _. ⌜ now (kept .exit) ≡ keptAfter (now (kept .entry)) (followedFor (now (kept .entry)) (now (tally .entry)) address (now (datagram .entry)) (now (track .entry)) .followed) ⌝ }
+    ensures tally { λ _. ⌜ now (tally .exit) ≡ followedFor (now (kept .entry)) (now (tally .entry)) address (now (datagram .entry)) (now (track .entry)) .tally .counts ⌝ }
+    ensures track { λ _. ⌜ now (track .exit) ≡ followedTrack (takeOf (now (kept .entry))) address (now (datagram .entry)) (now (track .entry)) ⌝ }
 {
     let t = kept::load(kept);
     let bytes = &kept[..];
-    let judged = take::follow::judge(&bytes[..16], t, address, datagram, track::held(track));
+    let judged = take::judge::judge(&bytes[..16], t, address, datagram, track::held(track));
     let answer = judged.answer;
     raise(tally, answer);
     let number = answers::number(answer);
     if number != 0 {
-        *laid = [0, 0, 0];
+        *laid = [0; 8];
         return number;
     }
     // A take that is followed keeps its name, so the bytes after it are all that can change. The records come last, when nothing is
     // left to be kept meanwhile.
     let h = judged.header;
-    let place = take::follow::place_of(t, h);
+    let place = take::line::place_of(t, h);
     *laid = [
         place as u64,
         h.frames as u64,
-        take::follow::skipped(t, h) as u64,
+        take::line::skipped(t, h) as u64,
+        0,
+        0,
+        0,
+        0,
+        0,
     ];
     kept::store_followed(h, place, kept);
     take::follow::lay(h.format, h.frames, h.channels, datagram, place, track);

@@ -22,9 +22,9 @@ fn number(n: u64, out: &mut [u8], at: usize) -> usize
 // A number and the byte after it: a space, or a line feed.
 pub fn field(n: u64, after: u8, out: &mut [u8], at: usize) -> usize
     requires { ⌜ at + 21 ≤ length (now out) ⌝ }
-    ensures { λ _. ⌜ now (out .exit) ≡ put (now (out .entry)) at (fieldOf n after) ⌝ }
-    ensures { λ r. ⌜ r ≡ at + length (fieldOf n after) ⌝ }
-    ensures { λ r. ⌜ r ≤ at + 21 ⌝ }
+    ensures text { λ _. ⌜ now (out .exit) ≡ put (now (out .entry)) at (fieldOf n after) ⌝ }
+    ensures end { λ r. ⌜ r ≡ at + length (fieldOf n after) ⌝ }
+    ensures within { λ r. ⌜ r ≤ at + 21 ⌝ }
 {
     let e = number(n, out, at);
     out[e] = after;
@@ -42,9 +42,9 @@ pub fn line(
     at: usize,
 ) -> usize
     requires { ⌜ at + lineRoom ≤ length (now out) ⌝ }
-    ensures { λ _. ⌜ now (out .exit) ≡ put (now (out .entry)) at (lineOf index answer place frames skipped) ⌝ }
-    ensures { λ r. ⌜ r ≡ at + length (lineOf index answer place frames skipped) ⌝ }
-    ensures { λ r. ⌜ r ≤ at + lineRoom ⌝ }
+    ensures text { λ _. ⌜ now (out .exit) ≡ put (now (out .entry)) at (lineOf index answer place frames skipped) ⌝ }
+    ensures end { λ r. ⌜ r ≡ at + length (lineOf index answer place frames skipped) ⌝ }
+    ensures within { λ r. ⌜ r ≤ at + lineRoom ⌝ }
 {
     let a = field(index, b' ', out, at);
     let b = field(answer as u64, b' ', out, a);

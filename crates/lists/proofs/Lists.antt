@@ -1,8 +1,8 @@
 -- Laws of `put` and `upTo`, and of a run of stores over a whole slice.
 use mathlib.Core.Path.{_≡_, refl, sym, ap, _∙_}
 use mathlib.Core.List.{List, [], _∷_, _++_, append-assoc, append-nil}
-use Prim.Native.Nat.{ℕ, zero, suc, _+_, _-_, _*_, _<_, _≤_}
-use native.Mathlib.Nat.{not-suc-le-zero, le-of-suc-le-suc, zero-add, add-zero, add-suc, le-of-eq, suc-mul, zero-mul, add-sub-cancel-left, min-le-left, le-antisymm, mul-le-mul-right}
+use Prim.Native.Nat.{ℕ, zero, suc, _+_, _-_, _*_, _<_, _≤_, zero-le}
+use native.Mathlib.Nat.{not-suc-le-zero, le-of-suc-le-suc, zero-add, add-zero, add-suc, le-of-eq, suc-mul, zero-mul, add-sub-cancel-left, min-le-left, mul-le-mul-right}
 use native.Mathlib.Omega.{arith}
 use native.Mathlib.Decide.{decLt}
 use native.Mathlib.Numerals.{add-one}
@@ -51,6 +51,20 @@ put-more d s t at h =
       length-append s t,
     )
     (simp append-assoc)
+
+-- one list after another, from the front
+pub put-next : (d s t : List ℕ) (n : ℕ) → length s ≡ n → put (put d 0 s) n t ≡ put d 0 (s ++ t)
+put-next d s t n e = rw (← e, ← zero-add (length s)) (put-more d s t 0 zero-le)
+
+-- what was written from the front, and the rest as it was
+module _ (d s : List ℕ) (n : ℕ) (e : length s ≡ n) where
+  pub take-put : take n (put d 0 s) ≡ s
+  unfolding put
+  take-put = take-at s _ n e
+
+  pub drop-put : drop n (put d 0 s) ≡ drop n d
+  unfolding put
+  drop-put = drop-at s _ n e ∙ rw e
 
 -- what is written over by as much or more leaves nothing
 pub put-over : (d s t : List ℕ) (at : ℕ) → at ≤ length d → length s ≤ length t → put (put d at s) at t ≡ put d at t
@@ -159,19 +173,6 @@ module _ (w : ℕ) (f : ℕ → List ℕ) (each : (k : ℕ) → length (f k) ≡
         let e : k ≡ n = omega arith in
         rw e (skip (upTo n f) (f n) (n * w) j (upTo-length n))
   ]
-
-  -- a turn of the loop that writes one after the other: the n-th is lent out[a..e] and written there
-  pub turn : (d out ys : List ℕ) (at n a e : ℕ) → out ≡ put d at (upTo n f) → ys ≡ f n → a ≡ at + n * w → e ≡ a + w → at ≤ length d
-      → putMid a (e - a) out ys ≡ put d at (upTo (n + 1) f)
-  unfolding upTo
-  turn d out ys at n a e p q ea ee h =
-      let m : length (f n) ≡ e - a = each n ∙ rw ee (sym (add-sub-cancel-left a w)) in
-      let l : a ≡ at + length (upTo n f) = ea ∙ rw (upTo-length n) in
-      rw (p, q, lent (put d at (upTo n f)) (f n) a (e - a) m, add-one, l) (put-more d (upTo n f) (f n) at h)
-
-  -- after the loop over the whole of d
-  pub filled : (d out : List ℕ) (n k : ℕ) → out ≡ put d 0 (upTo k f) → k ≤ n → n ≤ k → length d ≡ n * w → out ≡ upTo n f
-  filled d out n k p a b h = p ∙ rw (le-antisymm a b) (put-whole d (upTo n f) (h ∙ sym (upTo-length n)))
 
 -- parts of d, one after the other, are one part
 pub upTo-run : (w a n : ℕ) (d : List ℕ) (f : ℕ → List ℕ) → ((k : ℕ) → k < n → f k ≡ take w (drop (a + k * w) d))

@@ -8,7 +8,15 @@ use borrow.Author.Tests.{ltb-false, le-ltb}
 use mathlib.Core.List.{List, [], _∷_}
 use Rattle.lists.specs.Tables.{Row, choose, first, unlike, NoneSays}
 use Rattle.lists.proofs.Tables.{by-test, true-false, like-by, by-like}
-use Rattle.lists.specs.Rules.{Rules, done, rule, AllHold, FirstBroken, Judges}
+use Rattle.lists.specs.Rules.{Rules, done, rule, AllHold, FirstBroken}
+
+-- each row refuses exactly when its rule is broken
+abbrev pub Judges : {A : Type 0} → List (Row A) → Rules A → Type 0
+Judges [] done = Unit {0}
+Judges [] (rule a holds rest) = ⊥
+Judges (r ∷ rows) done = ⊥
+Judges (r ∷ rows) (rule a holds rest) =
+    (r .says ≡ a) × (r .refuses ≡ true → holds → ⊥) × (r .refuses ≡ false → holds) × Judges rows rest
 
 -- no rule answers a
 abbrev pub NoneAnswers : {A : Type 0} → A → Rules A → Type 0

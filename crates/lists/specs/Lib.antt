@@ -1,3 +1,4 @@
 pub mod Lists
+pub mod Little
 pub mod Tables
 pub mod Rules

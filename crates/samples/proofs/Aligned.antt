@@ -8,9 +8,9 @@ use lib.Arith.{digits-div, digits-mod}
 use lib.Pow.{pow-pos, pow-add}
 use borrow.Author.Tests.{lt-ltb, le-ltb, lt-leb}
 use Rattle.lists.proofs.Tables.{less-alike}
-use Rattle.samples.specs.Convert.{rank, roundedOf, narrowed, rescaled}
-use Rattle.samples.specs.Wire.{signedOf}
-use Rattle.samples.proofs.Places.{sub-lt}
+use Rattle.sample_rules.specs.Convert.{rank, roundedOf, narrowed, rescaled}
+use Rattle.sample_rules.specs.Bits.{signedOf}
+use Rattle.sample_rules.proofs.Places.{sub-lt}
 
 module _ (a : ℕ) (l : 0 < a) where
   less-times : (x y : ℕ) → x < y → x * a < y * a

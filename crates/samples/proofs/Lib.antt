@@ -1,14 +1,6 @@
-pub mod Machine
-pub mod Places
-pub mod Signed
-pub mod Rounds
-pub mod Rescaled
 pub mod Parity
 pub mod Narrowing
-pub mod Formats
-pub mod Nearest
-pub mod Converts
-pub mod Bits
 pub mod Aligned
 pub mod Moves
-pub mod Examples
+pub mod Converting
+pub mod Slotting

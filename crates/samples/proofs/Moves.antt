@@ -6,10 +6,10 @@ use lib.Dec.{lit≤}
 use lib.IntN.{ℤ, subℕ}
 use lib.Signed.{mag}
 use mir.Facts.{toZ-ofZ}
-use Rattle.samples.specs.Convert.{rank, rescaled}
-use Rattle.samples.specs.Wire.{bitsOf}
-use Rattle.samples.proofs.Machine.{Int}
-use Rattle.samples.proofs.Bits.{bits-lt, rescaled-mag}
+use Rattle.sample_rules.specs.Convert.{rank, rescaled}
+use Rattle.sample_rules.specs.Bits.{bitsOf}
+use Rattle.formats.proofs.Machine.{Int}
+use Rattle.sample_rules.proofs.Bits.{bits-lt, rescaled-mag}
 
 -- the widths of a byte, of a slot and of 32 bits are widths
 abbrev pub bits8 : (2 ≤ 8) × (8 ≤ 32)

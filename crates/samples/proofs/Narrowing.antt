@@ -14,11 +14,11 @@ use mir.Syntax.{w32}
 use mir.Val.{SFits}
 use mir.Facts.{toZ-ofZ}
 use Rattle.lists.specs.Tables.{choose}
-use Rattle.samples.specs.Convert.{rank, roundedOf, narrowed}
-use Rattle.samples.proofs.Machine.{Int}
-use Rattle.samples.proofs.Places.{doubles, sub-le, sub-rank, rank-lt, sub-mag, plus, pos-minus}
-use Rattle.samples.proofs.Rescaled.{narrowed-lt}
-use Rattle.samples.proofs.Signed.{shifted, parity, less-is}
+use Rattle.sample_rules.specs.Convert.{rank, roundedOf, narrowed}
+use Rattle.formats.proofs.Machine.{Int}
+use Rattle.sample_rules.proofs.Places.{doubles, sub-le, sub-rank, rank-lt, sub-mag, plus, pos-minus}
+use Rattle.sample_rules.proofs.Rescaled.{narrowed-lt}
+use Rattle.sample_rules.proofs.Signed.{shifted, parity, less-is}
 
 -- ---- on places, over half a step h
 

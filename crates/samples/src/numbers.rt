@@ -4,8 +4,8 @@ ghost use Prim.Native.Nat.{_+_, _-_, _%_, _^_, _≤_, _<_};
 ghost use lib.IntN.{pos, negsuc, natAbs, subℕ, _*ℤ_};
 ghost use lib.Signed.{mag, ltZ};
 ghost use Rattle.lists.specs.Tables.{choose};
-ghost use Rattle.samples.specs.Convert.{rank, narrowed, rescaled};
-ghost use Rattle.samples.specs.Wire.{signedOf, bitsOf};
+ghost use Rattle.sample_rules.specs.Convert.{rank, narrowed, rescaled};
+ghost use Rattle.sample_rules.specs.Bits.{signedOf, bitsOf};
 
 // 2 to the k.
 fn power(k: u32) -> i64

@@ -1,7 +1,3 @@
-pub mod Checks
+pub mod Placing
 pub mod Judging
-pub mod Counting
-pub mod Exactly
 pub mod Following
-pub mod Wraps
-pub mod Records

@@ -1,6 +1,1 @@
-pub mod Counter
-pub mod Take
-pub mod Follow
-pub mod Tally
-pub mod History
-pub mod Laid
+pub mod Judging

@@ -1,6 +1,6 @@
 // Counters, which wrap.
 ghost use mathlib.Core.Path.{_≡_};
-ghost use Rattle.take.specs.Counter.{away, newer};
+ghost use Rattle.take_rules.specs.Counter.{away, newer};
 
 // d: a counter less the newest, modulo 2^32.
 pub fn distance(counter: u32, newest: u32) -> u32

@@ -1,33 +1,16 @@
 // The house tally, by value.
 ghost use mathlib.Core.Path.{_≡_};
 ghost use Prim.Native.Nat.{_<_};
-ghost use Rattle.take.specs.Tally.{countOf, cleared, raisedOf};
-use crate::Tally;
+ghost use Rattle.answers.specs.Numbers.{numberOf, countsKept, countOf};
+ghost use Rattle.take_rules.specs.Tally.{cleared, raisedOf};
 use answers::Answer;
+use take_rules::Tally;
 
 // Where an answer's count stands.
 pub fn count(a: Answer) -> usize
-    ensures { λ r. ⌜ (r ≡ countOf a) × (r < 17) ⌝ }
+    ensures { λ r. ⌜ (r ≡ countOf (numberOf a)) × (r < countsKept) ⌝ }
 {
-    match a {
-        Answer::Accepted => 0,
-        Answer::Short => 1,
-        Answer::Long => 2,
-        Answer::Foreign => 3,
-        Answer::Name => 4,
-        Answer::OtherStream => 5,
-        Answer::SubProtocol => 6,
-        Answer::Codec => 7,
-        Answer::Reserved => 8,
-        Answer::Rate => 9,
-        Answer::DataType => 10,
-        Answer::Length => 11,
-        Answer::Channels => 12,
-        Answer::Shape => 13,
-        Answer::Late => 14,
-        Answer::Beyond => 15,
-        Answer::State => 16,
-    }
+    answers::count(answers::number(a))
 }
 
 pub fn clear() -> Tally

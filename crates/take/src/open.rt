@@ -1,48 +1,49 @@
 // Opening a take.
 ghost use mathlib.Core.Path.{_≡_};
-ghost use Rattle.take.specs.Take.{noTake, openOf, openedTrack};
-use crate::Opened;
-use crate::Take;
+ghost use Rattle.take_rules.specs.Take.{unbegunFor, noTake, openOf, openedTrack};
 use answers::Answer;
+use take_rules::Line;
+use take_rules::Opened;
+use take_rules::Shape;
+use take_rules::Take;
+use take_rules::Who;
 
-// The one place that builds a take.
-pub fn made(
-    name: [u8; 16],
-    address: u32,
-    begun: bool,
-    rate: u8,
-    channels: u16,
-    format: u8,
-    frames: u16,
-    newest: u32,
-    place: usize,
-) -> Take
-    ensures { λ r. ⌜ r ≡ record { name = name; address = address; begun = begun; rate = rate; channels = channels; format = format; frames = frames; newest = newest; place = place } ⌝ }
+// A take that has accepted nothing yet.
+fn unbegun(who: Who) -> Take
+    ensures { λ r. ⌜ r ≡ unbegunFor who ⌝ }
 {
+    let shape = Shape {
+        rate: 0,
+        channels: 0,
+        format: 0,
+    };
+    let line = Line {
+        n: 0,
+        newest: 0,
+        place: 0,
+    };
     Take {
-        name,
-        address,
-        begun,
-        rate,
-        channels,
-        format,
-        frames,
-        newest,
-        place,
+        who,
+        begun: false,
+        shape,
+        line,
     }
 }
 
 // The all-zero take.
-pub fn none() -> Take
+fn none() -> Take
     ensures { λ r. ⌜ r ≡ noTake ⌝ }
 {
-    made([0u8; 16], 0, false, 0, 0, 0, 0, 0, 0)
+    unbegun(Who {
+        name: [0u8; 16],
+        address: 0,
+    })
 }
 
 // Fixes the name and the sender's address, and clears all whole records.
 pub fn open(name: [u8; 16], address: u32, track: &mut [u8]) -> Opened
-    ensures { λ r. ⌜ r ≡ openOf name address ⌝ }
-    ensures { λ _. ⌜ now (track .exit) ≡ openedTrack name (now (track .entry)) ⌝ }
+    ensures answer { λ r. ⌜ r ≡ openOf name address ⌝ }
+    ensures track { λ _. ⌜ now (track .exit) ≡ openedTrack name (now (track .entry)) ⌝ }
 {
     if !wire::name::good(&name) {
         return Opened {
@@ -52,8 +53,12 @@ pub fn open(name: [u8; 16], address: u32, track: &mut [u8]) -> Opened
     }
     track::clear(track);
     let kept = wire::name::kept(&name);
+    let who = Who {
+        name: kept,
+        address,
+    };
     Opened {
         answer: Answer::Accepted,
-        take: made(kept, address, false, 0, 0, 0, 0, 0, 0),
+        take: unbegun(who),
     }
 }

@@ -1,9 +1,3 @@
-pub mod Names
-pub mod Joining
-pub mod Pieces
-pub mod Rows
-pub mod Reading
-pub mod Fours
-pub mod Spelled
-pub mod Writing
-pub mod RoundTrip
+pub mod Shifting
+pub mod Measuring
+pub mod Halves

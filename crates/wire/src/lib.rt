@@ -1,8 +1,4 @@
-// The 28 bytes: names, rates, the header's bytes, reading a datagram and writing one.
-pub mod again;
+// Names, the bits of bytes 4 and 7, and rates.
 pub mod bits;
-pub mod header;
 pub mod name;
 pub mod rate;
-pub mod read;
-pub mod write;

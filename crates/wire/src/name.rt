@@ -1,11 +1,9 @@
 // The name rule.
 ghost use mathlib.Core.Path.{_≡_};
-ghost use mathlib.Core.List.{_++_};
-ghost use Prim.Native.Nat.{_+_, _-_, _*_, _/_, _%_, _^_, _≤_};
+ghost use Prim.Native.Nat.{_%_, _^_, _≤_};
 ghost use lib.ListN.{length};
-ghost use Rattle.wire.specs.Names.{nameOf, charactersOf, goodName, measured, keptName, sameBytes, sameName};
-ghost use Rattle.wire.specs.Header.{eightAt};
-ghost use Rattle.wire.specs.Write.{four};
+ghost use Rattle.wire_rules.specs.Names.{nameOf, goodName, keptName, sameBytes, sameName};
+ghost use Rattle.wire.specs.Measured.{charactersOf, measured};
 
 // How many characters the name has: the bytes before the first zero, or all.
 fn count(n: &[u8]) -> usize
@@ -48,17 +46,9 @@ pub fn good(n: &[u8]) -> bool
     measure(n) != 0
 }
 
-// The eight bytes from `i` on as a number, by two reads of four, which become one.
-fn eight_at(n: &[u8], i: usize) -> u64
-    requires { ⌜ i + 8 ≤ length (now n) ⌝ }
-    ensures { λ r. ⌜ r ≡ eightAt (now (n .entry)) i ⌝ }
-{
-    crate::bits::four_at(n, i) as u64 + crate::bits::four_at(n, i + 4) as u64 * 4294967296
-}
-
 // The lowest `k` bytes of eight.
 fn lowest(w: u64, k: usize) -> u64
-    ensures { λ r. ⌜ r ≡ w % 2 ^ (8 * k) ⌝ }
+    ensures { λ r. ⌜ r ≡ w % 256 ^ k ⌝ }
 {
     if k < 8 {
         let shift = (8 * k) as u32;
@@ -67,34 +57,23 @@ fn lowest(w: u64, k: usize) -> u64
     w
 }
 
-// A number's eight bytes, the lowest first.
-fn put_eight(w: u64, out: &mut [u8])
-    requires { ⌜ length (now out) ≡ 8 ⌝ }
-    ensures { λ _. ⌜ now (out .exit) ≡ four (w % 4294967296) ++ four (w / 4294967296) ⌝ }
-{
-    let low = crate::bits::split_counter((w % 4294967296) as u32);
-    let high = crate::bits::split_counter((w / 4294967296) as u32);
-    crate::write::place(&low, out, 0);
-    crate::write::place(&high, out, 4);
-}
-
 // The name of `k` characters with zeros after it, into the bytes that are lent, as two words: a copy of so many bytes would cost a
 // loop. The second word of a short name is zero. Both are read before one is stored, since nothing tells the compiler that the slices
 // are apart.
-pub(crate) fn keep(n: &[u8], k: usize, out: &mut [u8])
+pub fn keep(n: &[u8], k: usize, out: &mut [u8])
     requires { ⌜ (length (now n) ≡ 16) × (length (now out) ≡ 16) ⌝ }
     requires { ⌜ k ≡ length (nameOf (now n)) ⌝ }
     ensures { λ _. ⌜ now (out .exit) ≡ keptName (now (n .entry)) ⌝ }
 {
-    let first = lowest(eight_at(n, 0), k);
+    let first = lowest(words::get8(n, 0), k);
     if k < 8 {
-        put_eight(first, &mut out[0..8]);
-        put_eight(0, &mut out[8..16]);
+        words::put8(&mut out[0..8], first);
+        words::put8(&mut out[8..16], 0);
         return;
     }
-    let second = lowest(eight_at(n, 8), k - 8);
-    put_eight(first, &mut out[0..8]);
-    put_eight(second, &mut out[8..16]);
+    let second = lowest(words::get8(n, 8), k - 8);
+    words::put8(&mut out[0..8], first);
+    words::put8(&mut out[8..16], second);
 }
 
 pub fn kept(n: &[u8]) -> [u8; 16]
@@ -130,7 +109,7 @@ pub fn equal(m: &[u8], n: &[u8]) -> bool
 {
     let mut i = 0;
     while i < 16 {
-        if eight_at(m, i) != eight_at(n, i) {
+        if words::get8(m, i) != words::get8(n, i) {
             return false;
         }
         i += 8;

@@ -1,7 +1,8 @@
 // The rate of an index.
 ghost use mathlib.Core.Path.{_≡_};
-ghost use Rattle.wire.specs.Rates.{rateOf};
+ghost use Rattle.wire_rules.specs.Rates.{rateOf};
 use answers::Answer;
+use wire_rules::Rated;
 
 const RATES: [u32; 21] = [
     6000,
@@ -26,11 +27,6 @@ const RATES: [u32; 21] = [
     352800,
     705600,
 ];
-
-pub struct Rated {
-    pub answer: Answer,
-    pub hertz: u32,
-}
 
 pub fn rate(index: u8) -> Rated
     ensures { λ r. ⌜ r ≡ rateOf index ⌝ }

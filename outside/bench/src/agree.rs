@@ -1,12 +1,14 @@
 //! Both sides have to give the same before anything is timed.
 
+use tashmirok::Laid;
+
 use crate::inputs::{bytes, Shape, RECORD, RECORDS};
 use crate::sides::{Proved, Rival, Side, DESK};
 
 /// Everything that one side gives: answers, fields, counts and lent bytes.
 #[derive(PartialEq)]
 struct Given {
-    answers: Vec<(u8, [u64; 3])>,
+    answers: Vec<(u8, Vec<u64>)>,
     counts: Vec<u32>,
     lent: Vec<u8>,
 }
@@ -16,8 +18,9 @@ fn followed<S: Side>(heard: &[(u32, Vec<u8>)], records: usize) -> Given {
     let mut lent = bytes(records * RECORD + 5);
     let mut side = S::open(&mut lent);
     let follow = |(address, datagram): &(u32, Vec<u8>)| {
-        let mut laid = [9; 3];
-        (side.follow(*address, datagram, &mut lent, &mut laid), laid)
+        let mut laid = Laid { place: 9, frames: 9, skipped: 9, spare: [9; 5] };
+        let answer = side.follow(*address, datagram, &mut lent, &mut laid);
+        (answer, [&[laid.place, laid.frames, laid.skipped], &laid.spare[..]].concat())
     };
     let answers = heard.iter().map(follow).collect();
     let counts = (0..17).map(|number| side.count(number)).collect();
@@ -31,7 +34,7 @@ fn cut<S: Side>(shape: &Shape, track: &[u8]) -> Given {
     for k in 0..=all {
         let (mut out, mut written) = (vec![0xA5; 1470], 9);
         let answer = S::cut(&shape.form(), track, k, &mut out, &mut written);
-        answers.push((answer, [written as u64, 0, 0]));
+        answers.push((answer, vec![written as u64]));
         lent.extend(out);
     }
     Given { answers, counts: Vec::new(), lent }

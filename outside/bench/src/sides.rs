@@ -1,6 +1,6 @@
 //! Both implementations behind one face, so that they are handed the same.
 
-use tashmirok::{raw, Form};
+use tashmirok::{raw, Form, Laid};
 
 use crate::rival;
 
@@ -12,7 +12,7 @@ pub trait Side: 'static {
     fn open(track: &mut [u8]) -> Self;
     /// The take as it was just opened; the track stays.
     fn reopen(&mut self);
-    fn follow(&mut self, address: u32, datagram: &[u8], track: &mut [u8], laid: &mut [u64; 3]) -> u8;
+    fn follow(&mut self, address: u32, datagram: &[u8], track: &mut [u8], laid: &mut Laid) -> u8;
     fn cut(form: &Form, track: &[u8], k: u32, out: &mut [u8], written: &mut usize) -> u8;
     fn count(&self, number: u8) -> u32;
 }
@@ -37,22 +37,11 @@ impl Side for Proved {
     }
 
     #[inline]
-    fn follow(&mut self, address: u32, datagram: &[u8], track: &mut [u8], laid: &mut [u64; 3]) -> u8 {
+    fn follow(&mut self, address: u32, datagram: &[u8], track: &mut [u8], laid: &mut Laid) -> u8 {
         let (take, tally) = (self.take.as_mut_ptr().cast(), self.tally.as_mut_ptr().cast());
         let (heard, lent) = (datagram.as_ptr(), track.as_mut_ptr());
         // SAFETY: take and tally have the sizes that the archive asks for, and borrows are good and apart.
-        unsafe {
-            raw::tashmirok_follow(
-                take,
-                tally,
-                address,
-                heard,
-                datagram.len(),
-                lent,
-                track.len(),
-                laid.as_mut_ptr(),
-            )
-        }
+        unsafe { raw::tashmirok_follow(take, tally, address, heard, datagram.len(), lent, track.len(), laid) }
     }
 
     #[inline]
@@ -84,7 +73,7 @@ impl Side for Rival {
     }
 
     #[inline]
-    fn follow(&mut self, address: u32, datagram: &[u8], track: &mut [u8], laid: &mut [u64; 3]) -> u8 {
+    fn follow(&mut self, address: u32, datagram: &[u8], track: &mut [u8], laid: &mut Laid) -> u8 {
         rival::follow(&mut self.take, &mut self.tally, address, datagram, track, laid)
     }
 

@@ -3,6 +3,8 @@
 use std::hint::black_box;
 use std::time::Instant;
 
+use tashmirok::Laid;
+
 use crate::inputs::{bytes, Shape, RECORD, RECORDS};
 use crate::sides::{Side, DESK};
 
@@ -109,7 +111,7 @@ pub fn accepted<S: Side>(shape: Shape) -> Sweep {
     let mut side = S::open(&mut []);
     Box::new(move |sweeps, lent| {
         let (track, _, datagram) = lent.parts();
-        let (mut answers, mut laid) = (0, [0; 3]);
+        let (mut answers, mut laid) = (0, Laid::default());
         for _ in 0..sweeps {
             side.reopen();
             for counter in 0..shape.packets() {
@@ -127,10 +129,10 @@ pub fn refused<S: Side>(address: u32, due: u8) -> Sweep {
     const CALLS: usize = 64;
     let (mut first, begin) = (vec![0; RECORDS * RECORD], Shape::largest(1, 2).datagram());
     let mut side = S::open(&mut first);
-    assert_eq!(side.follow(DESK, &begin, &mut first, &mut [0; 3]), 0);
+    assert_eq!(side.follow(DESK, &begin, &mut first, &mut Laid::default()), 0);
     Box::new(move |sweeps, lent| {
         let (track, _, datagram) = lent.parts();
-        let (mut same, mut laid) = (true, [0; 3]);
+        let (mut same, mut laid) = (true, Laid::default());
         for _ in 0..sweeps * CALLS {
             same &= side.follow(address, datagram, track, &mut laid) == due;
         }

@@ -6,17 +6,17 @@ use Rattle.capture.proofs.follow.Tie as tie
 
 long : tie.Need-returns
 long c =
-    let b = c .before .before .before .before .before in
+    let b = c .before .before .before .before in
     let s = b .before .before .before .before .before in
-    over-long (s .args .take) (s .args .tally) (s .args .heard .now) (s .args .track .now) _ _ (s .pre) (b .before .before .address .ensures)
-    (b .before .stated .ensures) _ _ (b .if1 .taken) (c .before .before .follow .ensures .0) (c .before .before .follow .ensures .1)
+    over-long (s .args .take) (s .args .counts) (s .args .heard .now) (s .args .track .now) _ _ (s .pre) (b .before .before .address .ensures)
+    (b .before .stated .ensures) _ _ (b .if1 .taken) (c .before .before .follow-counts .ensures)
 
 stated : tie.Need-returns-2
 stated c =
     let b = c .before .before .before .before .before in
     let s = b .before .before .before .before .before in
-    as-stated (s .args .take) (s .args .tally) (s .args .heard .now) (s .args .track .now) _ _ (s .pre) (b .before .before .address .ensures)
-    (b .before .stated .ensures) _ _ (b .if1 .left) (c .before .before .follow2 .ensures .0) (c .before .before .follow2 .ensures .1)
+    as-stated (s .args .take) (s .args .counts) (s .args .heard .now) (s .args .track .now) _ _ (s .pre) (b .before .before .address .ensures)
+    (b .before .stated .ensures) _ _ (b .if1 .left) (c .before .before .follow-counts2 .ensures)
 
 pub follow-spec : {M : Type 1} → statement M
 follow-spec =
@@ -25,12 +25,9 @@ follow-spec =
     (λ c κs. search needs)
     (λ c κs. search needs)
     (λ c. search needs)
-    (λ c. search needs)
-    (λ c. search needs)
     (λ c κs. search needs)
     (λ c. search needs)
     long
-    (λ c. search needs)
     (λ c. search needs)
     (λ c. search needs)
     (λ c. search needs)

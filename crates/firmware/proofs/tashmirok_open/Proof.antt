@@ -2,8 +2,8 @@
 use mathlib.Core.Path.{ap, _∙_}
 use borrow.Author.Needs.{needs}
 use Rattle.answers.specs.Numbers.{numberOf}
-use Rattle.take.specs.declared.Opened.{Opened}
-use Rattle.firmware.specs.Kept.{takeBytes}
+use Rattle.take_rules.specs.declared.Opened.{Opened}
+use Rattle.kept.specs.Kept.{takeBytes}
 use Rattle.firmware.proofs.tashmirok_open.Statement.{statement}
 use Rattle.firmware.proofs.tashmirok_open.Tie as tie
 

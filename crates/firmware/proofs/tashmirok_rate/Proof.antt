@@ -2,7 +2,7 @@
 use mathlib.Core.Path.{ap, _∙_}
 use borrow.Author.Needs.{needs}
 use Rattle.answers.specs.Numbers.{numberOf}
-use Rattle.wire.specs.declared.rate.Rated.{Rated}
+use Rattle.wire_rules.specs.declared.Rated.{Rated}
 use Rattle.firmware.proofs.tashmirok_rate.Statement.{statement}
 use Rattle.firmware.proofs.tashmirok_rate.Tie as tie
 

@@ -2,7 +2,7 @@
 use mathlib.Core.Path.{ap, _∙_}
 use borrow.Author.Needs.{needs}
 use Rattle.answers.specs.Numbers.{numberMade}
-use Rattle.wire.specs.declared.write.Written.{Written}
+use Rattle.wire_rules.specs.declared.Written.{Written}
 use Rattle.firmware.proofs.tashmirok_write.Statement.{statement}
 use Rattle.firmware.proofs.tashmirok_write.Tie as tie
 

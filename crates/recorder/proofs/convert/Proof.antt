@@ -1,7 +1,7 @@
 use borrow.Author.Needs.{needs}
 use mathlib.Core.Path.{ap, _∙_}
 use mir.Facts.{toZ-ofZ}
-use Rattle.samples.specs.Convert.{convertOf}
+use Rattle.sample_rules.specs.Convert.{convertOf}
 use Rattle.recorder.proofs.convert.Statement.{statement}
 use Rattle.recorder.proofs.convert.Tie as tie
 

@@ -2,7 +2,7 @@
 use mathlib.Core.Path.{sym, _∙_}
 use borrow.Author.Needs.{needs}
 use borrow.Author.Tests.{not-false}
-use Rattle.samples.proofs.Converts.{bad-from, bad-to, unknown-from, unknown-to, bad-number, is-converted, meets}
+use Rattle.samples.proofs.Converting.{bad-from, bad-to, unknown-from, unknown-to, bad-number, is-converted, meets}
 use Rattle.samples.proofs.convert.Statement.{statement}
 use Rattle.samples.proofs.convert.Tie as tie
 

@@ -7,10 +7,10 @@ use Rattle.takelist.proofs.follow_all.Statement.{statement}
 use Rattle.takelist.proofs.follow_all.Tie as tie
 
 abbrev Inv-loop : tie.InvT-loop
-Inv-loop track₀ take₀ tally₀ index₀ track take tally index = length track ≡ length track₀
+Inv-loop track₀ take₀ counts₀ index₀ track take counts index = length track ≡ length track₀
 
 abbrev μ-loop : tie.MeasureT-loop
-μ-loop track₀ take₀ tally₀ index₀ track take tally index = 2 ^ 63 - index
+μ-loop track₀ take₀ counts₀ index₀ track take counts index = 2 ^ 63 - index
 
 pub follow-all-spec : {M : Type 1} → statement M
 follow-all-spec =

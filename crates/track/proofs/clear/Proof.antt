@@ -8,7 +8,7 @@ use lib.ListN.{length, drop, set, replicate, length-set, length-replicate}
 use borrow.Author.Needs.{needs}
 use borrow.Author.Fill.{fill-more}
 use Rattle.lists.specs.Lists.{put}
-use Rattle.track.specs.Records.{clearedOf}
+use Rattle.track_rules.specs.Records.{clearedOf}
 use Rattle.track.proofs.clear.Statement.{statement}
 use Rattle.track.proofs.clear.Tie as tie
 

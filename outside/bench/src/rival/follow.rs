@@ -1,5 +1,7 @@
 //! Following a take.
 
+use tashmirok::Laid;
+
 use super::{lay, name};
 
 #[derive(Clone, Copy, Default)]
@@ -129,14 +131,14 @@ pub fn follow(
     address: u32,
     datagram: &[u8],
     track: &mut [u8],
-    laid: &mut [u64; 3],
+    laid: &mut Laid,
 ) -> u8 {
     let held = track.len() / 24;
     let packet = match judge(take, address, datagram, held as u64) {
         Ok(packet) => packet,
         Err(refusal) => {
             tally[usize::from(refusal)] = tally[usize::from(refusal)].saturating_add(1);
-            *laid = [0; 3];
+            *laid = Laid::default();
             return refusal;
         }
     };
@@ -146,7 +148,12 @@ pub fn follow(
     }
     (take.newest, take.place) = (packet.counter, packet.place);
     tally[0] = tally[0].saturating_add(1);
-    *laid = [packet.place, packet.frames.into(), packet.skipped.into()];
+    *laid = Laid {
+        place: packet.place,
+        frames: packet.frames.into(),
+        skipped: packet.skipped.into(),
+        spare: [0; 5],
+    };
     // The records come last, when nothing is left to be kept meanwhile.
     let from = packet.place as usize * 24;
     let records = &mut track[from..from + usize::from(packet.frames) * 24];

@@ -10,6 +10,7 @@ use reference::read;
 use reference::refusal::number_of;
 use reference::take::{self, Begun, Take, Tally};
 use reference::track::{records, RECORD};
+use tashmirok::Laid;
 
 use crate::compare::{hex, Counts, Differences, Fault};
 use crate::lent::{Lent, Words};
@@ -168,7 +169,8 @@ impl Scene {
     /// Follows a datagram on both sides.
     fn follow(&mut self, address: u32, heard: &Lent, counts: &mut Counts) -> Differences {
         let (ours, theirs) = (&mut self.ours, &mut self.theirs);
-        let (before, mut laid) = (ours.take.bytes().to_vec(), [0xA5A5; 3]);
+        let garbage = Laid { place: 0xA5A5, frames: 0xA5A5, skipped: 0xA5A5, spare: [0xA5A5; 5] };
+        let (before, mut laid) = (ours.take.bytes().to_vec(), garbage);
         let (take, tally, track) = (ours.take.bytes_mut(), ours.tally.words_mut(), ours.track.bytes_mut());
         let answer = tashmirok::follow(take, tally, address, heard.bytes(), track, &mut laid);
         let due = take::follow(
@@ -182,7 +184,13 @@ impl Scene {
         let mut found = Differences::default();
         let fields = due.unwrap_or_default();
         found.same("answer", answer, number_of(&due));
-        found.same("laid", laid, [fields.place, fields.frames.into(), fields.skipped.into()]);
+        let told = Laid {
+            place: fields.place,
+            frames: fields.frames.into(),
+            skipped: fields.skipped.into(),
+            spare: [0; 5],
+        };
+        found.same("laid", laid, told);
         found.bytes("track", ours.track.bytes(), &theirs.track);
         if due.is_err() {
             found.bytes("a refusal's take", ours.take.bytes(), &before);

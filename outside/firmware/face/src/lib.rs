@@ -4,6 +4,8 @@
 
 pub mod raw;
 
+pub use raw::Laid;
+
 /// What a packet says of itself, as writing and cutting take it; a cut's counter is its start.
 #[derive(Clone, Copy, Debug)]
 pub struct Form<'a> {
@@ -40,7 +42,7 @@ pub fn follow(
     address: u32,
     datagram: &[u8],
     track: &mut [u8],
-    laid: &mut [u64; 3],
+    laid: &mut Laid,
 ) -> u8 {
     assert!(take.len() >= take_size() && tally.len() >= tally_words());
     // SAFETY: take and tally have their sizes, words are aligned to 4, and borrows are good and apart.
@@ -53,7 +55,7 @@ pub fn follow(
             datagram.len(),
             track.as_mut_ptr(),
             track.len(),
-            laid.as_mut_ptr(),
+            laid,
         )
     }
 }

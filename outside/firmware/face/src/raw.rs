@@ -6,6 +6,16 @@ pub enum Take {}
 /// A tally, of so many bytes as `tashmirok_tally_size` says, aligned to 4.
 pub enum Tally {}
 
+/// What following tells of a packet that is accepted; a refusal's is all zeros.
+#[repr(C)]
+#[derive(Clone, Copy, Debug, Default, PartialEq, Eq)]
+pub struct Laid {
+    pub place: u64,
+    pub frames: u64,
+    pub skipped: u64,
+    pub spare: [u64; 5],
+}
+
 extern "C" {
     pub fn tashmirok_take_size() -> usize;
     pub fn tashmirok_tally_size() -> usize;
@@ -24,7 +34,7 @@ extern "C" {
         length: usize,
         track: *mut u8,
         track_length: usize,
-        laid: *mut u64,
+        laid: *mut Laid,
     ) -> u8;
     pub fn tashmirok_clear_tally(tally: *mut Tally);
     pub fn tashmirok_count(tally: *const Tally, number: u8) -> u32;

@@ -7,9 +7,9 @@ use lib.ListN.{length, take, drop, replicate, length-drop}
 use lib.Seq.{length-take-le}
 use borrow.Author.Needs.{needs}
 use Rattle.lists.proofs.Lists.{copied-whole}
-use Rattle.take.specs.declared.Opened.{Opened}
-use Rattle.take.specs.Take.{openOf, openedTrack}
-use Rattle.capture.specs.Records.{addressOf}
+use Rattle.take_rules.specs.declared.Opened.{Opened}
+use Rattle.take_rules.specs.Take.{openOf, openedTrack}
+use Rattle.capture_rules.specs.Records.{addressOf}
 use Rattle.capture.proofs.jobs.open.Statement.{statement}
 use Rattle.capture.proofs.jobs.open.Tie as tie
 

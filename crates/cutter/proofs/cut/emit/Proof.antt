@@ -1,6 +1,6 @@
 -- The header, and the samples after it.
 use borrow.Author.Needs.{needs}
-use Rattle.wire.proofs.Pieces.{packed}
+use Rattle.writer.proofs.Pieces.{packed}
 use Rattle.cutter.proofs.cut.emit.Statement.{statement}
 use Rattle.cutter.proofs.cut.emit.Tie as tie
 
@@ -11,7 +11,7 @@ emit-spec =
     (λ c. search needs)
     (λ c. search needs)
     (λ c. search needs)
-    (λ c κs. (search needs, (search needs, search needs)))
+    (λ c κs. search needs)
     (λ c κs. search needs)
     (λ c. search needs)
     (λ c. search packed))

@@ -11,10 +11,10 @@ use mir.Syntax.{w32, w64}
 use mir.Val.{Fits, SFits}
 use mir.Facts.{toZ-ofZ}
 use borrow.Author.Needs.{needs}
-use Rattle.samples.specs.Convert.{rank}
-use Rattle.samples.specs.Wire.{bitsOf}
-use Rattle.samples.proofs.Machine.{Long, Int, back, wider, wider-int}
-use Rattle.samples.proofs.Places.{placed, rank-lt}
+use Rattle.sample_rules.specs.Convert.{rank}
+use Rattle.sample_rules.specs.Bits.{bitsOf}
+use Rattle.formats.proofs.Machine.{Long, Int, back, wider, wider-int}
+use Rattle.sample_rules.proofs.Places.{placed, rank-lt}
 use Rattle.samples.proofs.numbers.bits.Statement.{statement}
 use Rattle.samples.proofs.numbers.bits.Tie as tie
 

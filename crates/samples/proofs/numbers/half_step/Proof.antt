@@ -7,7 +7,7 @@ use mir.Syntax.{w32}
 use mir.Val.{SFits}
 use mir.Facts.{toZ-ofZ}
 use Rattle.lists.specs.Tables.{choose}
-use Rattle.samples.proofs.Machine.{Int}
+use Rattle.formats.proofs.Machine.{Int}
 use Rattle.samples.proofs.numbers.half_step.Statement.{statement}
 use Rattle.samples.proofs.numbers.half_step.Tie as tie
 

@@ -8,8 +8,8 @@ use mir.Syntax.{w32, w64}
 use mir.Val.{SFits}
 use mir.Facts.{toZ-ofZ}
 use borrow.Author.Needs.{needs}
-use Rattle.samples.proofs.Machine.{Long, Int, back}
-use Rattle.samples.proofs.Places.{doubles, sub-le, pos-minus}
+use Rattle.formats.proofs.Machine.{Long, Int, back}
+use Rattle.sample_rules.proofs.Places.{doubles, sub-le, pos-minus}
 use Rattle.samples.proofs.numbers.last.Statement.{statement}
 use Rattle.samples.proofs.numbers.last.Tie as tie
 

@@ -3,7 +3,7 @@ use lib.Dec.{lit<}
 use native.Mathlib.Omega.{arith}
 use mir.Syntax.{w64}
 use borrow.Author.Needs.{needs}
-use Rattle.samples.proofs.Machine.{shifted-one}
+use Rattle.formats.proofs.Machine.{shifted-one}
 use Rattle.samples.proofs.numbers.power.Statement.{statement}
 use Rattle.samples.proofs.numbers.power.Tie as tie
 

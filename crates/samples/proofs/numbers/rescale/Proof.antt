@@ -11,10 +11,10 @@ use borrow.Author.Tests.{le-leb, lt-leb}
 use mir.Syntax.{w32}
 use mir.Val.{SFits}
 use mir.Facts.{toZ-ofZ}
-use Rattle.samples.specs.Convert.{rank, narrowed, rescaled}
-use Rattle.samples.proofs.Machine.{Int}
-use Rattle.samples.proofs.Places.{sub-rank, rank-lt, sub-mag}
-use Rattle.samples.proofs.Signed.{times}
+use Rattle.sample_rules.specs.Convert.{rank, narrowed, rescaled}
+use Rattle.formats.proofs.Machine.{Int}
+use Rattle.sample_rules.proofs.Places.{sub-rank, rank-lt, sub-mag}
+use Rattle.sample_rules.proofs.Signed.{times}
 use Rattle.samples.proofs.numbers.rescale.Statement.{statement}
 use Rattle.samples.proofs.numbers.rescale.Tie as tie
 

@@ -11,10 +11,10 @@ use mir.Syntax.{w32, w64}
 use mir.Val.{Fits, SFits, toZ}
 use mir.Facts.{toZ-ofZ, toZ-pos}
 use borrow.Author.Needs.{needs}
-use Rattle.samples.specs.Wire.{signedOf}
-use Rattle.samples.proofs.Machine.{Long, Int, back, wider}
-use Rattle.samples.proofs.Places.{doubles, sub-mag, pos-minus}
-use Rattle.samples.proofs.Bits.{signed-place}
+use Rattle.sample_rules.specs.Bits.{signedOf}
+use Rattle.formats.proofs.Machine.{Long, Int, back, wider}
+use Rattle.sample_rules.proofs.Places.{doubles, sub-mag, pos-minus}
+use Rattle.sample_rules.proofs.Bits.{signed-place}
 use Rattle.samples.proofs.numbers.signed.Statement.{statement}
 use Rattle.samples.proofs.numbers.signed.Tie as tie
 

@@ -9,7 +9,7 @@ use mir.Syntax.{w32, w64}
 use mir.Val.{SFits}
 use mir.Facts.{toZ-ofZ}
 use borrow.Author.Needs.{needs}
-use Rattle.samples.proofs.Machine.{Long, Int, back, wider, wider-int}
+use Rattle.formats.proofs.Machine.{Long, Int, back, wider, wider-int}
 use Rattle.samples.proofs.numbers.widen.Statement.{statement}
 use Rattle.samples.proofs.numbers.widen.Tie as tie
 

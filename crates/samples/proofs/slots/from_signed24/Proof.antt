@@ -1,7 +1,7 @@
 -- A slot's bits are a 24-bit sample's.
 use mathlib.Core.Path.{sym}
-use Rattle.samples.specs.Wire.{slotOf}
-use Rattle.samples.proofs.Bits.{same-bits}
+use Rattle.sample_rules.specs.Bits.{slotOf}
+use Rattle.samples.proofs.Slotting.{same-bits}
 use Rattle.samples.proofs.slots.from_signed24.Statement.{statement}
 use Rattle.samples.proofs.slots.from_signed24.Tie as tie
 

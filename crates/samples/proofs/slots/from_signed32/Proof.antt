@@ -1,7 +1,7 @@
 -- What `moved` gives is the definition's, at these widths.
 use borrow.Author.Needs.{needs}
-use Rattle.samples.specs.Convert.{converted}
-use Rattle.samples.specs.Wire.{slotOf}
+use Rattle.sample_rules.specs.Convert.{converted}
+use Rattle.sample_rules.specs.Bits.{slotOf}
 use Rattle.samples.proofs.slots.from_signed32.Statement.{statement}
 use Rattle.samples.proofs.slots.from_signed32.Tie as tie
 

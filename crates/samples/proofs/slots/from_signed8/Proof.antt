@@ -4,14 +4,15 @@ use Prim.Native.Nat.{ℕ, _+_, _%_, _^_, _<_}
 use lib.Dec.{lit≤}
 use lib.IntN.{subℕ}
 use borrow.Author.Needs.{needs}
-use Rattle.samples.specs.declared.Format.the-variants.{Unsigned8}
-use Rattle.samples.specs.Convert.{rank, rescaled}
-use Rattle.samples.specs.Wire.{signedOf, bitsOf, slotOf}
-use Rattle.samples.proofs.Bits.{signed-place, byte-slot}
+use Rattle.formats.specs.Formats.{unsigned8}
+use Rattle.sample_rules.specs.Convert.{rank, rescaled}
+use Rattle.sample_rules.specs.Bits.{signedOf, bitsOf, slotOf}
+use Rattle.sample_rules.proofs.Bits.{signed-place}
+use Rattle.samples.proofs.Slotting.{byte-slot}
 use Rattle.samples.proofs.slots.from_signed8.Statement.{statement}
 use Rattle.samples.proofs.slots.from_signed8.Tie as tie
 
-laid : (u : ℕ) → u < 2 ^ 8 → bitsOf 24 (subℕ (rescaled 8 24 (rank 128 (signedOf 8 u))) 8388608) ≡ slotOf Unsigned8 ((u + 128) % 256)
+laid : (u : ℕ) → u < 2 ^ 8 → bitsOf 24 (subℕ (rescaled 8 24 (rank 128 (signedOf 8 u))) 8388608) ≡ slotOf unsigned8 ((u + 128) % 256)
 laid u h = rw (← signed-place 8 (lit≤ tt) u h) (byte-slot ((u + 128) % 256))
 
 returns : tie.Need-returns

@@ -8,8 +8,8 @@ use mir.Syntax.{w32}
 use mir.Val.{SFits, toZ}
 use mir.Facts.{toZ-pos}
 use borrow.Author.Needs.{needs}
-use Rattle.samples.proofs.Places.{pos-minus, sub-mag}
-use Rattle.samples.proofs.Bits.{byte-slot}
+use Rattle.sample_rules.proofs.Places.{pos-minus, sub-mag}
+use Rattle.samples.proofs.Slotting.{byte-slot}
 use Rattle.samples.proofs.Moves.{bits8, bits24, room, room-bits, bits-there}
 use Rattle.samples.proofs.slots.from_unsigned8.Statement.{statement}
 use Rattle.samples.proofs.slots.from_unsigned8.Tie as tie

@@ -1,9 +1,8 @@
 -- The bits as a number, the number rescaled, and its bits.
-use Prim.Native.Nat.{_-_}
 use native.Mathlib.Omega.{arith}
 use borrow.Author.Needs.{needs}
-use Rattle.samples.specs.Wire.{signedOf}
-use Rattle.samples.proofs.Bits.{signed-mag}
+use Rattle.sample_rules.specs.Bits.{signedOf}
+use Rattle.sample_rules.proofs.Bits.{signed-mag}
 use Rattle.samples.proofs.Moves.{room, room-bits, bits-there}
 use Rattle.samples.proofs.slots.moved.Statement.{statement}
 use Rattle.samples.proofs.slots.moved.Tie as tie

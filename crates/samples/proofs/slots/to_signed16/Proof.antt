@@ -4,8 +4,8 @@ use Prim.Native.Nat.{ℕ}
 use lib.Dec.{lit<}
 use lib.IntN.{subℕ}
 use borrow.Author.Needs.{needs}
-use Rattle.samples.specs.Convert.{converted}
-use Rattle.samples.specs.Wire.{bitsOf, sentOf}
+use Rattle.sample_rules.specs.Convert.{converted}
+use Rattle.sample_rules.specs.Bits.{bitsOf, sentOf}
 use Rattle.samples.proofs.Aligned.{aligned}
 use Rattle.samples.proofs.slots.to_signed16.Statement.{statement}
 use Rattle.samples.proofs.slots.to_signed16.Tie as tie

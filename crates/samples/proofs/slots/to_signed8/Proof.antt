@@ -5,10 +5,11 @@ use native.Mathlib.Omega.{arith}
 use lib.Dec.{lit<}
 use lib.IntN.{subℕ}
 use borrow.Author.Needs.{needs}
-use Rattle.samples.specs.declared.Format.the-variants.{Unsigned8}
-use Rattle.samples.specs.Wire.{bitsOf, sentOf}
-use Rattle.samples.proofs.Places.{by-sign}
-use Rattle.samples.proofs.Bits.{sent-below, byte-sent}
+use Rattle.formats.specs.Formats.{unsigned8}
+use Rattle.sample_rules.specs.Bits.{bitsOf, sentOf}
+use Rattle.sample_rules.proofs.Places.{by-sign}
+use Rattle.sample_rules.proofs.Bits.{sent-below}
+use Rattle.samples.proofs.Slotting.{byte-sent}
 use Rattle.samples.proofs.Aligned.{aligned}
 use Rattle.samples.proofs.slots.to_signed8.Statement.{statement}
 use Rattle.samples.proofs.slots.to_signed8.Tie as tie
@@ -23,7 +24,7 @@ returns c =
     let s = c .before .args .s in
     let h = c .before .pre in
     let e = c .moved .ensures in
-    (rw (e .0, aligned s 8 h (lit< tt) ∙ byte-sent s) (back (sentOf Unsigned8 s) (sent-below Unsigned8 s h)), e .1)
+    (rw (e .0, aligned s 8 h (lit< tt) ∙ byte-sent s) (back (sentOf unsigned8 s) (sent-below unsigned8 s h)), e .1)
 
 pub to-signed8-spec : {M : Type 1} → statement M
 to-signed8-spec = tie.close (tie.spec (λ c. search needs) (λ c κs. search needs) returns)

@@ -9,13 +9,14 @@ use mir.Syntax.{w32}
 use mir.Val.{Fits, SFits}
 use mir.Facts.{toZ-ofZ}
 use borrow.Author.Needs.{needs}
-use Rattle.samples.specs.declared.Format.the-variants.{Unsigned8}
-use Rattle.samples.specs.Convert.{rank, rescaled}
-use Rattle.samples.specs.Wire.{signedOf, sentOf}
-use Rattle.samples.proofs.Machine.{Int}
-use Rattle.samples.proofs.Places.{rank-lt, sub-le, plus}
-use Rattle.samples.proofs.Rescaled.{rescaled-lt}
-use Rattle.samples.proofs.Bits.{signed-mag, byte-sent}
+use Rattle.formats.specs.Formats.{unsigned8}
+use Rattle.sample_rules.specs.Convert.{rank, rescaled}
+use Rattle.sample_rules.specs.Bits.{signedOf, sentOf}
+use Rattle.formats.proofs.Machine.{Int}
+use Rattle.sample_rules.proofs.Places.{rank-lt, sub-le, plus}
+use Rattle.sample_rules.proofs.Rescaled.{rescaled-lt}
+use Rattle.sample_rules.proofs.Bits.{signed-mag}
+use Rattle.samples.proofs.Slotting.{byte-sent}
 use Rattle.samples.proofs.Aligned.{aligned}
 use Rattle.samples.proofs.Moves.{bits8, bits32, there}
 use Rattle.samples.proofs.slots.to_unsigned8.Statement.{statement}
@@ -50,7 +51,7 @@ module _ (s : ℕ) (h : s < 2 ^ 24) where
     whole : T (nonNeg (Int (Int r +ℤ pos 128))) × Fits w32 (natAbs (Int (Int r +ℤ pos 128)))
     whole = rw number (tt, record { fits = omega (arith, below) })
 
-    sent : (natAbs (Int (Int r +ℤ pos 128)) ≡ sentOf Unsigned8 s) × (natAbs (Int (Int r +ℤ pos 128)) < 2 ^ 8)
+    sent : (natAbs (Int (Int r +ℤ pos 128)) ≡ sentOf unsigned8 s) × (natAbs (Int (Int r +ℤ pos 128)) < 2 ^ 8)
     sent = rw number (aligned s 8 h (lit< tt) ∙ byte-sent s, below)
 
 start : (c : tie.After-rescale) → Int (c .rescale .result) ≡ subℕ (y (c .before .before .args .s) (c .before .before .pre)) 128

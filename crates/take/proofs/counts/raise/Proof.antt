@@ -7,12 +7,13 @@ use lib.Seq.{set-getD}
 use borrow.Author.Needs.{needs}
 use borrow.Author.Tests.{lt-ltb, le-ltb}
 use Rattle.answers.specs.declared.Answer.{Answer}
-use Rattle.take.specs.declared.Tally.{Tally}
-use Rattle.take.specs.Tally.{countOf, raisedOf}
+use Rattle.take_rules.specs.declared.Tally.{Tally}
+use Rattle.answers.specs.Numbers.{numberOf, countOf}
+use Rattle.take_rules.specs.Tally.{raisedOf}
 use Rattle.take.proofs.counts.raise.Statement.{statement}
 use Rattle.take.proofs.counts.raise.Tie as tie
 
-module _ (t : Tally) (a : Answer) (i : ℕ) (e : i ≡ countOf a) where
+module _ (t : Tally) (a : Answer) (i : ℕ) (e : i ≡ countOf (numberOf a)) where
   below : getD (t .counts) i 0 < 4294967295 → record { counts = set (t .counts) i (getD (t .counts) i 0 + 1) } ≡ raisedOf t a
   below h = rw (← e, lt-ltb _ _ h)
 

@@ -1,4 +1,4 @@
--- The outcome, and the tally.
+-- What following gives, and the tally.
 use borrow.Author.Needs.{needs}
 use Rattle.take.proofs.Following.{tallied}
 use Rattle.take.proofs.follow.follow.Statement.{statement}

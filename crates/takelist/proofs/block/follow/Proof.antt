@@ -8,7 +8,7 @@ use Rattle.takelist.proofs.block.follow.Statement.{statement}
 use Rattle.takelist.proofs.block.follow.Tie as tie
 
 abbrev Inv : tie.InvT-loop
-Inv index block lines₀ track₀ n kept₀ i₀ lines track kept i = Going (boxOf (kept₀ .take) (kept₀ .tally) track₀) index block lines₀ lines track kept i
+Inv index block lines₀ track₀ n kept₀ i₀ lines track kept i = Going (boxOf (kept₀ .take) (kept₀ .counts) track₀) index block lines₀ lines track kept i
 
 abbrev μ : tie.MeasureT-loop
 μ index block lines₀ track₀ n kept₀ i₀ lines track kept i = n - i
@@ -30,9 +30,9 @@ follow-spec =
     (λ c. search needs)
     (λ c. search needs)
     (λ c. search needs)
+    (λ c. search needs)
     (λ c. omega arith)
     (λ c κs. (search heard-long, search line-fits))
-    (λ c. search needs)
     (λ c. search needs)
     (λ c. search next)
     (λ c. search needs)

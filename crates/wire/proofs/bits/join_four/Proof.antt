@@ -1,6 +1,6 @@
 -- The sub protocol lies above the rate's five bits.
 use native.Mathlib.Omega.{arith}
-use Rattle.wire.proofs.Joining.{joined}
+use Rattle.wire.proofs.Shifting.{joined}
 use Rattle.wire.proofs.bits.join_four.Statement.{statement}
 use Rattle.wire.proofs.bits.join_four.Tie as tie
 

@@ -1,7 +1,7 @@
 -- Each field lies above the one before.
 use Prim.Native.Nat.{_+_, _*_}
 use native.Mathlib.Omega.{arith}
-use Rattle.wire.proofs.Joining.{joined}
+use Rattle.wire.proofs.Shifting.{joined}
 use Rattle.wire.proofs.bits.join_seven.Statement.{statement}
 use Rattle.wire.proofs.bits.join_seven.Tie as tie
 

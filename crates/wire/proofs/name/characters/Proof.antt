@@ -8,7 +8,7 @@ use lib.ListN.{length, getD, drop, drop-of-length-le}
 use lib.Seq.{drop-cons}
 use borrow.Author.Needs.{needs}
 use Rattle.lists.proofs.Branches.{less-yes, less-no}
-use Rattle.wire.specs.Names.{charactersOf}
+use Rattle.wire.specs.Measured.{charactersOf}
 use Rattle.wire.proofs.name.characters.Statement.{statement}
 use Rattle.wire.proofs.name.characters.Tie as tie
 

@@ -7,10 +7,10 @@ use native.Mathlib.Omega.{arith}
 use lib.ListN.{length, drop, drop-of-length-le}
 use borrow.Author.Needs.{needs}
 use borrow.Author.Tests.{eq-eqb, ne-eqb}
-use Rattle.wire.specs.Names.{sameBytes}
+use Rattle.wire_rules.specs.Names.{sameBytes}
 use Rattle.lists.specs.Lists.{byte}
-use Rattle.wire.specs.Header.{eightAt}
-use Rattle.wire.proofs.Fours.{eights}
+use Rattle.lists.specs.Little.{little}
+use Rattle.wire.proofs.Halves.{same-words}
 use Rattle.wire.proofs.name.equal.Statement.{statement}
 use Rattle.wire.proofs.name.equal.Tie as tie
 
@@ -30,12 +30,12 @@ module _ (m n : List ℕ) (h : (length m ≡ 16) × (length n ≡ 16)) (i : ℕ)
   less : i < 16 → 16 - (i + 8) < 16 - i
   less g = omega arith
 
-  module _ (bm : (j : ℕ) → byte m j < 256) (bn : (j : ℕ) → byte n j < 256) (g : i < 16) (x y : ℕ) (p : x ≡ eightAt m i) (q : y ≡ eightAt n i) where
+  module _ (bm : (j : ℕ) → byte m j < 256) (bn : (j : ℕ) → byte n j < 256) (g : i < 16) (x y : ℕ) (p : x ≡ little 8 m i) (q : y ≡ little 8 n i) where
     differ : (x ≡ y → ⊥) → false ≡ sameBytes m n
-    differ d = rw (l .2, eights m n bm bn i (room-first g, room-second g), ne-eqb (eightAt m i) (eightAt n i) (λ e. d (p ∙ e ∙ sym q)))
+    differ d = rw (l .2, same-words m n bm bn 8 i (room-first g) (room-second g), ne-eqb (little 8 m i) (little 8 n i) (λ e. d (p ∙ e ∙ sym q)))
 
     next : x ≡ y → (i + 8 ≤ 16) × ((i + 8) % 8 ≡ 0) × (sameBytes m n ≡ sameBytes (drop (i + 8) m) (drop (i + 8) n))
-    next e = (omega (arith, l .1), omega (arith, l .1), rw (l .2, eights m n bm bn i (room-first g, room-second g), eq-eqb (eightAt m i) (eightAt n i) (sym p ∙ e ∙ q)))
+    next e = (omega (arith, l .1), omega (arith, l .1), rw (l .2, same-words m n bm bn 8 i (room-first g) (room-second g), eq-eqb (little 8 m i) (little 8 n i) (sym p ∙ e ∙ q)))
 
   end : 16 ≤ i → true ≡ sameBytes m n
   unfolding sameBytes

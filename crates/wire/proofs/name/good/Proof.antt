@@ -1,6 +1,6 @@
 -- Measured.
 use borrow.Author.Needs.{needs}
-use Rattle.wire.proofs.Names.{measured-good}
+use Rattle.wire.proofs.Measuring.{measured-good}
 use Rattle.wire.proofs.name.good.Statement.{statement}
 use Rattle.wire.proofs.name.good.Tie as tie
 

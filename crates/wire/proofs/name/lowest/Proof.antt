@@ -1,11 +1,17 @@
 -- A shift makes the power of two; eight bytes are the whole of a word.
-use mathlib.Core.Path.{_≡_, sym}
-use Prim.Native.Nat.{ℕ, _*_, _%_, _^_, _≤_, _<_}
-use native.Mathlib.Nat.{mod-eq-of-lt, one-mul, one-le-pow, pow-le-pow-right}
+use mathlib.Core.Path.{_≡_, refl, sym}
+use Prim.Native.Nat.{ℕ, zero, suc, _*_, _%_, _^_, _≤_, _<_}
+use native.Mathlib.Nat.{mod-eq-of-lt, one-mul, mul-suc, one-le-pow, pow-suc, pow-le-pow-right}
 use native.Mathlib.Omega.{arith}
+use lib.Pow.{pow-add}
 use borrow.Author.Needs.{needs}
 use Rattle.wire.proofs.name.lowest.Statement.{statement}
 use Rattle.wire.proofs.name.lowest.Tie as tie
+
+-- a byte is eight bits
+bytes : (k : ℕ) → 2 ^ (8 * k) ≡ 256 ^ k
+bytes zero = refl
+bytes (suc k) = rw (mul-suc 8 k, pow-add 2 (8 * k) 8, bytes k, pow-suc 256 k)
 
 module _ (w k : ℕ) where
   power : k < 8 → 1 * 2 ^ (8 * k) % 2 ^ 64 ≡ 2 ^ (8 * k)
@@ -16,12 +22,12 @@ module _ (w k : ℕ) where
   some : k < 8 → 0 < 1 * 2 ^ (8 * k) % 2 ^ 64
   some h = rw (power h) (one-le-pow (8 * k) 2 (omega arith))
 
-  few : k < 8 → w % (1 * 2 ^ (8 * k) % 2 ^ 64) ≡ w % 2 ^ (8 * k)
-  few h = rw (power h)
+  few : k < 8 → w % (1 * 2 ^ (8 * k) % 2 ^ 64) ≡ w % 256 ^ k
+  few h = rw (power h, bytes k)
 
-  all : w < 2 ^ 64 → 8 ≤ k → w ≡ w % 2 ^ (8 * k)
+  all : w < 2 ^ 64 → 8 ≤ k → w ≡ w % 256 ^ k
   all f h =
-      let l : 2 ^ 64 ≤ 2 ^ (8 * k) = pow-le-pow-right {n = 2} (omega arith) {i = 64} {j = 8 * k} (omega arith) in
+      let l : 256 ^ 8 ≤ 256 ^ k = pow-le-pow-right {n = 256} (omega arith) {i = 8} {j = k} (omega arith) in
       sym (mod-eq-of-lt (omega arith))
 
 pub lowest-spec : {M : Type 1} → statement M

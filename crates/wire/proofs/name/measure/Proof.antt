@@ -5,8 +5,8 @@ use Prim.Native.Nat.{ℕ}
 use lib.ListN.{getD}
 use borrow.Author.Needs.{needs}
 use borrow.Author.Tests.{ne-eqb}
-use Rattle.wire.specs.Names.{measured, charactersOf}
-use Rattle.wire.proofs.Names.{measured-counted}
+use Rattle.wire.specs.Measured.{measured, charactersOf}
+use Rattle.wire.proofs.Measuring.{measured-counted}
 use Rattle.wire.proofs.name.measure.Statement.{statement}
 use Rattle.wire.proofs.name.measure.Tie as tie
 

@@ -9,8 +9,8 @@ use lib.ListN.{length, getD, drop, List·getD-eq-default}
 use borrow.Author.Needs.{needs}
 use borrow.Author.Tests.{eq-eqb, ne-eqb, eqb-true, eqb-false}
 use Rattle.lists.proofs.Tables.{by-test}
-use Rattle.wire.specs.Names.{nameOf, sameBytes, sameName}
-use Rattle.wire.proofs.Names.{name-ends, name-goes}
+use Rattle.wire_rules.specs.Names.{nameOf, sameBytes, sameName}
+use Rattle.wire_rules.proofs.Names.{name-ends, name-goes}
 use Rattle.wire.proofs.name.same.Statement.{statement}
 use Rattle.wire.proofs.name.same.Tie as tie
 

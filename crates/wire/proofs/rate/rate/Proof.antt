@@ -1,7 +1,7 @@
 -- The row, or none below the table's end.
 use borrow.Author.Needs.{needs}
 use Rattle.lists.proofs.Branches.{less-yes, less-no}
-use Rattle.wire.specs.Rates.{rates, rateOf}
+use Rattle.wire_rules.specs.Rates.{rates, rateOf}
 use Rattle.wire.proofs.rate.rate.Statement.{statement}
 use Rattle.wire.proofs.rate.rate.Tie as tie
 

@@ -1,0 +1,4 @@
+pub mod Long
+pub mod Reading
+pub mod Joining
+pub mod Lengths

@@ -1,0 +1,11 @@
+pub mod Paint
+pub mod Accepting
+pub mod Sends
+pub mod Standing
+pub mod Steps
+pub mod Sent
+pub mod Determined
+pub mod Demand
+pub mod Bench
+pub mod Examples
+pub mod Used

@@ -1,0 +1,63 @@
+-- A store of four bytes a turn, and the last frame by itself.
+use Prim.Native.Nat.{_+_, _-_, _≤_}
+use native.Mathlib.Omega.{arith}
+use lib.ListN.{length}
+use borrow.Author.Needs.{needs}
+use Rattle.records.proofs.Taking.{none}
+use Rattle.out24.proofs.Overlaid.{Overlaid, word-stored, start, next, end}
+use Rattle.out24.proofs.ones.Statement.{statement}
+use Rattle.out24.proofs.ones.Tie as tie
+
+abbrev Inv : tie.InvT-loop
+Inv track first frames out₀ at last k₀ from₀ a₀ out k from a = Overlaid 1 track first frames 1 out₀ at out k from a
+
+abbrev μ : tie.MeasureT-loop
+μ track first frames out₀ at last k₀ from₀ a₀ out k from a = frames - k
+
+starts : tie.Need-loop-holds Inv μ
+starts c =
+    let o = c .before .before in
+    search (start (o .before .args .track .now) (λ i. o .shared-slice-known .given i .fits))
+
+again : tie.Need-loop-again Inv μ
+again c =
+    let l = c .before .before .before .before .before .before in
+    let o = l .before .before .before in
+    let t = o .before .args .track .now in
+    let room : l .loop .from + 4 ≤ length t = omega arith in
+    let few : 1 ≤ 3 = omega arith in
+    search (next t (λ i. o .shared-slice-known .given i .fits) 1 1, word-stored t (λ i. o .shared-slice-known .given i .fits) 4)
+
+last : tie.Need-returns-2 Inv μ
+last c =
+    let o = c .before .before .before .before .before .before .before .before in
+    search (end (o .before .args .track .now) (λ i. o .shared-slice-known .given i .fits) 1 1, needs)
+
+pub ones-spec : {M : Type 1} → statement M
+ones-spec =
+    tie.close
+    (tie.spec
+    Inv
+    μ
+    (λ c. search none)
+    (λ c. search needs)
+    (λ c. search needs)
+    starts
+    (λ c κs. search needs)
+    (λ c. search needs)
+    (λ c. search needs)
+    (λ c. search needs)
+    (λ c. search needs)
+    (λ c κs. omega (arith, c .put4-arg .given .2))
+    (λ c. search needs)
+    (λ c. search needs)
+    (λ c. search needs)
+    (λ c. search needs)
+    again
+    (λ c. search needs)
+    (λ c. search needs)
+    (λ c. search needs)
+    (λ c. search needs)
+    (λ c κs. (omega arith, omega (arith, c .one-frame-arg .given .2)))
+    (λ c. search needs)
+    last)

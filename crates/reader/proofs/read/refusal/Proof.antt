@@ -1,0 +1,17 @@
+-- The first part of the table, and then the second.
+use mathlib.Core.Path.{refl}
+use borrow.Author.Needs.{needs}
+use Rattle.wire_rules.specs.Read.{frontRows, audioRows, readRows}
+use Rattle.reader.proofs.Rows.{stops, goes}
+use Rattle.reader.proofs.read.refusal.Statement.{statement}
+use Rattle.reader.proofs.read.refusal.Tie as tie
+
+pub refusal-spec : {M : Type 1} → statement M
+refusal-spec =
+    tie.close
+    (tie.spec
+    (λ c κs. search needs)
+    (λ c κs. search needs)
+    (λ c. search (stops frontRows audioRows readRows (λ d. refl) (λ d. tt)))
+    (λ c κs. search needs)
+    (λ c. search (goes frontRows audioRows readRows (λ d. refl) (λ d. tt))))

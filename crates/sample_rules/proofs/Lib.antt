@@ -1,0 +1,9 @@
+pub mod Places
+pub mod Signed
+pub mod Rounds
+pub mod Rescaled
+pub mod Formats
+pub mod Nearest
+pub mod Converts
+pub mod Bits
+pub mod Examples

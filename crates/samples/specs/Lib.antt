@@ -1,4 +1,0 @@
-pub mod Formats
-pub mod Convert
-pub mod Nearest
-pub mod Wire

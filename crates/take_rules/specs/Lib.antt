@@ -1,0 +1,9 @@
+pub mod Counter
+pub mod Take
+pub mod Line
+pub mod Follow
+pub mod Tally
+pub mod History
+pub mod Lending
+pub mod Laid
+pub mod Box

@@ -1,5 +1,0 @@
-pub mod Bytes
-pub mod Words
-pub mod Records
-pub mod Frames
-pub mod Blocks

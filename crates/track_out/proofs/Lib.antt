@@ -1,6 +1,0 @@
-pub mod Taking
-pub mod Runs
-pub mod Copying
-pub mod Overlaid
-pub mod Pairs
-pub mod Groups

@@ -1,0 +1,3 @@
+// Writing one packet, and the two round trips.
+pub mod again;
+pub mod write;
