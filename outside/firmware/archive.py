@@ -65,9 +65,12 @@ def compile_here(made):
     """The archive for a processor that the kit's archives are not for."""
     with tempfile.TemporaryDirectory(prefix="archive-", dir=TARGET) as folder:
         tools, module = prove(Path(folder))
-        code = Path(folder) / "kept.o"
-        run([tools / "clang", f"--target={os.uname().machine}-unknown-linux-gnu", "-O3", "-fPIC",
-             "-Wno-override-module", "-c", "-x", "ir", module, "-o", code])
+        text, code = Path(folder) / "kept.ll", Path(folder) / "kept.o"
+        clang = [tools / "clang", f"--target={os.uname().machine}-unknown-linux-gnu", "-Wno-override-module", "-x", "ir"]
+        # The module names a processor that the compiler does not know here, and would leave this machine's own alone.
+        run([*clang, "-Xclang", "-disable-llvm-passes", "-S", "-emit-llvm", module, "-o", text])
+        text.write_text(text.read_text(encoding="utf-8").replace('"target-cpu"="x86-64"', ""), encoding="utf-8")
+        run([*clang, "-O3", "-fPIC", "-c", text, "-o", code])
         made.unlink(missing_ok=True)
         run([tools / "llvm-ar", "rcs", made, code])
 
