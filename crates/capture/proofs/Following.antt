@@ -3,7 +3,7 @@ use mathlib.Core.Path.{_≡_, sym, _∙_}
 use mathlib.Core.List.{List}
 use Prim.Native.Nat.{ℕ, _+_, _-_, _≤_, _<_}
 use native.Mathlib.Omega.{arith}
-use lib.ListN.{length, take, drop}
+use lib.ListN.{length, take, drop, length-take, length-drop}
 use Rattle.take_rules.specs.declared.Take.{Take}
 use Rattle.take_rules.specs.Follow.{followedTrack}
 use Rattle.take_rules.specs.Tally.{tallyOf, talliedOf}
@@ -19,12 +19,16 @@ module _ (t : Take) (counts heard track : List ℕ) (sender n : ℕ) (whole : le
   abbrev Follows : List ℕ → ℕ → Type 0
   Follows d address = (result ≡ countedOf (talliedOf t (tallyOf counts) address d track)) × (after ≡ followedTrack t address d track)
 
-  pub over-long : datagramMost < n → Follows heard sender → Follows (datagramOf heard) (addressOf heard)
+  -- the record's own bytes, which are longer
+  abbrev stand-in : List ℕ
+  stand-in = take recordSize (drop 0 heard)
+
+  pub over-long : datagramMost < n → Follows stand-in sender → Follows (datagramOf heard) (addressOf heard)
   over-long l f =
-      let short : datagramMost < length heard = omega (arith, whole) in
+      let as-long : datagramMost < length stand-in = simp (length-take, length-drop) (omega (arith, whole)) in
       let long : datagramMost < length (datagramOf heard) = rw (datagram-length heard whole, ← q) l in (
-        f .0 ∙ rw (p, long-follows t (addressOf heard) heard (datagramOf heard) short long track (tallyOf counts)),
-        f .1 ∙ rw p (long-track t (addressOf heard) heard (datagramOf heard) short long track),
+        f .0 ∙ rw (p, long-follows t (addressOf heard) stand-in (datagramOf heard) as-long long track (tallyOf counts)),
+        f .1 ∙ rw p (long-track t (addressOf heard) stand-in (datagramOf heard) as-long long track),
       )
 
   pub as-stated : n ≤ datagramMost → Follows (take (8 + n - 8) (drop 8 heard)) sender → Follows (datagramOf heard) (addressOf heard)

@@ -42,7 +42,7 @@ pub fn follow(take: Take, counts: [u32; 17], heard: &[u8], track: &mut [u8]) -> 
     let length = stated(heard) as usize;
     // All datagrams over 1,464 bytes are answered alike, so the record itself, which is longer, stands for one.
     if length > LONGEST {
-        return lent::follow_counts(take, counts, sender, heard, track);
+        return lent::follow_counts(take, counts, sender, &heard[0..RECORD], track);
     }
     let end = 8 + length;
     lent::follow_counts(take, counts, sender, &heard[8..end], track)

@@ -1,5 +1,5 @@
 -- Capture records (document 01, "Track and capture"): 1,472 bytes each.
-use Prim.Native.Nat.{ℕ, _+_, _-_}
+use Prim.Native.Nat.{ℕ, _-_}
 use mathlib.Core.List.{List, _++_}
 use lib.ListN.{length, take, drop, replicate}
 use lib.Dec.{eqb}

@@ -15,7 +15,7 @@ use Rattle.lists.specs.Little.{little, bytesOf}
 use Rattle.lists.specs.Tables.{choose}
 use Rattle.lists.proofs.Lists.{lent, put-more, put-whole, copied-whole}
 use Rattle.lists.proofs.Little.{bytes-length, little-one}
-use Rattle.lists.proofs.Tables.{by-test, true-false}
+use Rattle.lists.proofs.Tables.{true-false, both}
 use Rattle.wire_rules.specs.declared.Header.{Header}
 use Rattle.take_rules.specs.declared.Decision.the-variants.{Ahead, Late}
 use Rattle.take_rules.specs.declared.Take.{Take}
@@ -100,9 +100,7 @@ module _ (kept : List ℕ) (forty : length kept ≡ 40) where
 -- ---- followed
 
 pub plain-by : (r : Bool) (a b : ℕ) → r ≡ (eqb a 1 && eqb b 0) → r ≡ true → (a ≡ 1) × (b ≡ 0)
-plain-by r a b e t =
-    by-test (λ x. eqb a 1 ≡ x → (x && eqb b 0) ≡ true → (a ≡ 1) × (b ≡ 0)) (eqb a 1)
-    (λ x u v. (eqb-true a 1 u, eqb-true b 0 v)) (λ x u v. absurd (true-false (sym v))) refl (sym e ∙ t)
+plain-by r a b e t = let p = both (eqb a 1) (eqb b 0) (sym e ∙ t) in (eqb-true a 1 (p .0), eqb-true b 0 (p .1))
 
 -- once begun, what is not late is ahead
 ahead-by : (n : Bool) → isLate (choose n Ahead Late) ≡ false → choose n Ahead Late ≡ Ahead

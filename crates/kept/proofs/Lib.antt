@@ -1,3 +1,4 @@
 pub mod Fields
 pub mod Keeping
 pub mod Back
+pub mod Given

@@ -1,4 +1,4 @@
-// Laying by way of a block of slots, over the type: only `fill` knows which. Today samples of 32 bits are laid so.
+// Laying by way of a block of slots, over the type: only `fill` knows which. Samples of 32 bits are laid so.
 ghost use mathlib.Core.Path.{_≡_};
 ghost use mathlib.Core.Bool.{true};
 ghost use Prim.Native.Nat.{_+_, _*_, _<_, _≤_, min};

@@ -1,9 +1,10 @@
 -- The laws of numbers as bytes, over how many there are.
 use mathlib.Core.Path.{_≡_, refl, sym, ap, _∙_}
 use mathlib.Core.List.{List, [], _∷_, _++_}
-use Prim.Native.Nat.{ℕ, zero, suc, _+_, _*_, _/_, _%_, _^_, _≤_, _<_, zero-le, suc-le-suc}
-use native.Mathlib.Nat.{zero-add, add-zero, add-suc, suc-add, add-assoc, mul-assoc, zero-lt-suc, not-suc-le-zero, le-of-suc-le-suc, pow-suc, pow-succ', one-le-pow, div-div-eq-div-mul, div-eq-of-lt, add-mul-div-right}
+use Prim.Native.Nat.{ℕ, zero, suc, _+_, _-_, _*_, _/_, _%_, _^_, _≤_, _<_, zero-le, suc-le-suc}
+use native.Mathlib.Nat.{zero-add, add-zero, add-suc, suc-add, add-comm, add-assoc, mul-assoc, zero-lt-suc, pow-suc, pow-succ', one-le-pow, div-div-eq-div-mul, div-eq-of-lt, add-mul-div-right}
 use native.Mathlib.Omega.{arith}
+use lib.Arith.{digits-mod}
 use lib.ListN.{length, take, drop, List·getD-append}
 use lib.Seq.{drop-cons, getD-append-add, getD-take, getD-drop}
 use Rattle.lists.specs.Lists.{byte}
@@ -116,15 +117,22 @@ unfolding little
 little-below zero d a h = omega arith
 little-below (suc n) d a h = rw (pow-suc 256 n) (omega (arith, h a, little-below n d (suc a) h))
 
--- the byte at a place, by what it weighs
+-- n bytes after m others, by what they weigh
+pub little-middle : (m n k : ℕ) (d : List ℕ) (a : ℕ) → ((i : ℕ) → byte d i < 256) → little (m + (n + k)) d a / 256 ^ m % 256 ^ n ≡ little n d (a + m)
+little-middle m n k d a h =
+    let y = little (n + k) d (a + m) in
+    let x = little n d (a + m) in
+    let z = little k d (a + m + n) in
+    let p : (little m d a + y * 256 ^ m) / 256 ^ m ≡ y =
+    add-mul-div-right (little m d a) y (one-le-pow m 256 (zero-lt-suc 255)) ∙ rw (div-eq-of-lt (little-below m d a h)) (zero-add y) in
+    let q : (x + z * 256 ^ n) % 256 ^ n ≡ x = rw (add-comm x (z * 256 ^ n)) (digits-mod z (little-below n d (a + m) h)) in
+    rw (little-joined m (n + k) d a, p, little-joined n k d (a + m)) q
+
+-- the byte at a place
 pub little-byte : (n : ℕ) (d : List ℕ) (a j : ℕ) → ((i : ℕ) → byte d i < 256) → j < n → little n d a / 256 ^ j % 256 ≡ byte d (a + j)
-unfolding little
-little-byte zero d a j h l = absurd (not-suc-le-zero l)
-little-byte (suc n) d a zero h l = rw (add-zero a) (omega (arith, h a))
-little-byte (suc n) d a (suc j) h l =
-    let b = h a in
-    let q : (byte d a + little n d (suc a) * 256) / 256 ≡ little n d (suc a) = omega arith in
-    rw (← shift (byte d a + little n d (suc a) * 256) j, q, add-suc a j, ← suc-add a j) (little-byte n d (suc a) j h (le-of-suc-le-suc l))
+little-byte n d a j h l =
+    let e : n ≡ j + (1 + (n - suc j)) = omega arith in
+    ap (λ (x : ℕ). little x d a / 256 ^ j % 256) e ∙ little-middle j 1 (n - suc j) d a h ∙ little-one d (a + j)
 
 -- the bytes that a number is read from
 pub bytes-back : (n : ℕ) (d : List ℕ) (a : ℕ) → a + n ≤ length d → ((i : ℕ) → byte d i < 256) → bytesOf n (little n d a) ≡ take n (drop a d)

@@ -314,7 +314,7 @@ name-refuses e = omega (arith, ap numberOf e)
 
 module _ (name : List ℕ) (address : ℕ) (short : length name ≤ 16) where
   -- by the check, and nothing else
-  by-name : (P : Opened → Type 0) → (GoodName name → P (record { answer = Accepted; take = unbegun name address }))
+  pub by-name : (P : Opened → Type 0) → (GoodName name → P (record { answer = Accepted; take = unbegun name address }))
       → ((GoodName name → ⊥) → P (record { answer = Name; take = noTake })) → P (openOf name address)
   unfolding openOf
   by-name P f g =

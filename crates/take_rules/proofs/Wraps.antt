@@ -1,7 +1,7 @@
 -- Distances of counters that wrap, over the counter's width.
-use mathlib.Core.Path.{_≡_, refl, sym, _∙_}
+use mathlib.Core.Path.{_≡_, _∙_}
 use mathlib.Core.Logic.{_↔_}
-use mathlib.Core.Bool.{true, _&&_}
+use mathlib.Core.Bool.{true}
 use Prim.Native.Nat.{ℕ, _+_, _-_, _*_, _/_, _%_, _^_, _≤_, _<_}
 use native.Mathlib.Nat.{mod-add-mod, add-mod-right, mod-eq-of-lt, mod-lt, div-add-mod'}
 use native.Mathlib.Omega.{arith}
@@ -9,7 +9,7 @@ use lib.Arith.{digits-mod}
 use lib.Dec.{ltb}
 use lib.Pow.{pow-pos}
 use borrow.Author.Tests.{ltb-true, lt-ltb}
-use Rattle.lists.proofs.Tables.{by-test, true-false}
+use Rattle.lists.proofs.Tables.{both}
 use Rattle.wire_rules.specs.declared.Header.{Header}
 use Rattle.take_rules.specs.declared.Take.{Take}
 use Rattle.take_rules.specs.Counter.{away, newer}
@@ -37,8 +37,7 @@ module _ (w : ℕ) where
   -- newer exactly when d is from 1 to half the range less one
   pub newer-exactly : (d : ℕ) → newer w d ≡ true ↔ (1 ≤ d) × (d < 2 ^ (w - 1))
   newer-exactly d = (
-    by-test (λ b. ltb 0 d ≡ b → b && ltb d (2 ^ (w - 1)) ≡ true → (1 ≤ d) × (d < 2 ^ (w - 1))) (ltb 0 d)
-        (λ q p e. (ltb-true 0 d p, ltb-true _ _ e)) (λ q p e. absurd (true-false (sym e))) refl,
+    (λ e. let p = both (ltb 0 d) (ltb d (2 ^ (w - 1))) e in (ltb-true 0 d (p .0), ltb-true _ _ (p .1))),
     (λ h. rw (lt-ltb 0 d (h .0), lt-ltb d (2 ^ (w - 1)) (h .1))),
   )
 

@@ -6,7 +6,7 @@ use Rattle.capture.proofs.follow.Tie as tie
 
 long : tie.Need-returns
 long c =
-    let b = c .before .before .before .before in
+    let b = c .before .before .before .before .before in
     let s = b .before .before .before .before .before in
     over-long (s .args .take) (s .args .counts) (s .args .heard .now) (s .args .track .now) _ _ (s .pre) (b .before .before .address .ensures)
     (b .before .stated .ensures) _ _ (b .if1 .taken) (c .before .before .follow-counts .ensures)
@@ -24,6 +24,9 @@ follow-spec =
     (tie.spec
     (λ c κs. search needs)
     (λ c κs. search needs)
+    (λ c. search needs)
+    (λ c. search needs)
+    (λ c. search needs)
     (λ c. search needs)
     (λ c κs. search needs)
     (λ c. search needs)

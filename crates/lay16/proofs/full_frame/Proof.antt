@@ -2,14 +2,12 @@
 use mathlib.Core.Path.{_≡_, refl, _∙_}
 use mathlib.Core.List.{List, _∷_, []}
 use Prim.Native.Nat.{ℕ, _+_, _*_, _/_, _%_, _^_, _<_}
-use native.Mathlib.Nat.{zero-add, add-zero, add-comm, add-assoc, one-le-pow, zero-lt-suc, div-eq-of-lt, add-mul-div-right}
-use native.Mathlib.Omega.{arith}
-use lib.Arith.{digits-mod}
+use native.Mathlib.Nat.{add-zero, add-assoc}
 use lib.Dec.{lit<}
 use borrow.Author.Needs.{needs}
 use Rattle.lists.specs.Lists.{byte}
 use Rattle.lists.specs.Little.{little}
-use Rattle.lists.proofs.Little.{little-joined, little-below}
+use Rattle.lists.proofs.Little.{little-middle}
 use Rattle.formats.specs.Formats.{signed16}
 use Rattle.sample_rules.specs.Bits.{slotOf}
 use Rattle.track_rules.specs.Records.{recordOf, frameSlot}
@@ -17,37 +15,25 @@ use Rattle.records.proofs.Laying.{heard, framed}
 use Rattle.lay16.proofs.full_frame.Statement.{statement}
 use Rattle.lay16.proofs.full_frame.Tie as tie
 
-module _ (d : List ℕ) (below : (i : ℕ) → byte d i < 256) where
-  -- n bytes after m others
-  middle : (m n k a : ℕ) → little (m + (n + k)) d a / 256 ^ m % 256 ^ n ≡ little n d (a + m)
-  middle m n k a =
-      let y = little (n + k) d (a + m) in
-      let x = little n d (a + m) in
-      let z = little k d (a + m + n) in
-      let p : (little m d a + y * 256 ^ m) / 256 ^ m ≡ y =
-      add-mul-div-right (little m d a) y (one-le-pow m 256 (zero-lt-suc 255)) ∙ rw (div-eq-of-lt (little-below m d a below)) (zero-add y) in
-      let q : (x + z * 256 ^ n) % 256 ^ n ≡ x = rw (add-comm x (z * 256 ^ n)) (digits-mod z (little-below n d (a + m) below)) in
-      rw (little-joined m (n + k) d a, p, little-joined n k d (a + m)) q
+module _ (d : List ℕ) (below : (i : ℕ) → byte d i < 256) (from : ℕ) where
+  -- a slot by the sample that stands m bytes into the word at b
+  sample : (b m k v r c : ℕ) → v ≡ little (m + (2 + k)) d (from + b) → c < 8 → c * 2 ≡ b + m → r ≡ slotOf signed16 (v / 256 ^ m % 65536)
+      → r ≡ frameSlot signed16 d from 8 c
+  sample b m k v r c e h i s = heard signed16 d from 8 c _ r r h (rw (e, i, ← add-assoc from b m) (little-middle m 2 k d (from + b) below)) s refl
 
-  module _ (from : ℕ) where
-    -- a slot by the sample that stands m bytes into the word at b
-    sample : (b m k v r c : ℕ) → v ≡ little (m + (2 + k)) d (from + b) → c < 8 → c * 2 ≡ b + m → r ≡ slotOf signed16 (v / 256 ^ m % 65536)
-        → r ≡ frameSlot signed16 d from 8 c
-    sample b m k v r c e h i s = heard signed16 d from 8 c _ r r h (rw (e, i, ← add-assoc from b m) (middle m 2 k (from + b))) s refl
-
-    words-framed : (out : List ℕ) (v w r0 r1 r2 r3 r4 r5 r6 r7 : ℕ) → v ≡ little 8 d from → w ≡ little 8 d (from + 8)
-        → out ≡ recordOf (byte (r0 ∷ r1 ∷ r2 ∷ r3 ∷ r4 ∷ r5 ∷ r6 ∷ r7 ∷ []))
-        → r0 ≡ slotOf signed16 (v / 1 % 65536) → r1 ≡ slotOf signed16 (v / 65536 % 65536)
-        → r2 ≡ slotOf signed16 (v / 4294967296 % 65536) → r3 ≡ slotOf signed16 (v / 281474976710656 % 65536)
-        → r4 ≡ slotOf signed16 (w / 1 % 65536) → r5 ≡ slotOf signed16 (w / 65536 % 65536)
-        → r6 ≡ slotOf signed16 (w / 4294967296 % 65536) → r7 ≡ slotOf signed16 (w / 281474976710656 % 65536)
-        → out ≡ recordOf (frameSlot signed16 d from 8)
-    words-framed out v w r0 r1 r2 r3 r4 r5 r6 r7 e f p e0 e1 e2 e3 e4 e5 e6 e7 =
-        let e : v ≡ little 8 d (from + 0) = rw (add-zero from) e in
-        framed (frameSlot signed16 d from 8) out r0 r1 r2 r3 r4 r5 r6 r7 p
-        (sample 0 0 6 v r0 0 e (lit< tt) refl e0) (sample 0 2 4 v r1 1 e (lit< tt) refl e1) (sample 0 4 2 v r2 2 e (lit< tt) refl e2)
-        (sample 0 6 0 v r3 3 e (lit< tt) refl e3) (sample 8 0 6 w r4 4 f (lit< tt) refl e4) (sample 8 2 4 w r5 5 f (lit< tt) refl e5)
-        (sample 8 4 2 w r6 6 f (lit< tt) refl e6) (sample 8 6 0 w r7 7 f (lit< tt) refl e7)
+  words-framed : (out : List ℕ) (v w r0 r1 r2 r3 r4 r5 r6 r7 : ℕ) → v ≡ little 8 d from → w ≡ little 8 d (from + 8)
+      → out ≡ recordOf (byte (r0 ∷ r1 ∷ r2 ∷ r3 ∷ r4 ∷ r5 ∷ r6 ∷ r7 ∷ []))
+      → r0 ≡ slotOf signed16 (v / 1 % 65536) → r1 ≡ slotOf signed16 (v / 65536 % 65536)
+      → r2 ≡ slotOf signed16 (v / 4294967296 % 65536) → r3 ≡ slotOf signed16 (v / 281474976710656 % 65536)
+      → r4 ≡ slotOf signed16 (w / 1 % 65536) → r5 ≡ slotOf signed16 (w / 65536 % 65536)
+      → r6 ≡ slotOf signed16 (w / 4294967296 % 65536) → r7 ≡ slotOf signed16 (w / 281474976710656 % 65536)
+      → out ≡ recordOf (frameSlot signed16 d from 8)
+  words-framed out v w r0 r1 r2 r3 r4 r5 r6 r7 e f p e0 e1 e2 e3 e4 e5 e6 e7 =
+      let e : v ≡ little 8 d (from + 0) = rw (add-zero from) e in
+      framed (frameSlot signed16 d from 8) out r0 r1 r2 r3 r4 r5 r6 r7 p
+      (sample 0 0 6 v r0 0 e (lit< tt) refl e0) (sample 0 2 4 v r1 1 e (lit< tt) refl e1) (sample 0 4 2 v r2 2 e (lit< tt) refl e2)
+      (sample 0 6 0 v r3 3 e (lit< tt) refl e3) (sample 8 0 6 w r4 4 f (lit< tt) refl e4) (sample 8 2 4 w r5 5 f (lit< tt) refl e5)
+      (sample 8 4 2 w r6 6 f (lit< tt) refl e6) (sample 8 6 0 w r7 7 f (lit< tt) refl e7)
 
 returns : tie.Need-returns
 returns c =
