@@ -231,14 +231,14 @@ pub extern "C" fn tashmirok_follow(
     let bytes = &kept[..];
     let judged = take::judge::judge(&bytes[..16], t, address, datagram, track::held(track));
     let answer = judged.answer;
-    raise(tally, answer);
     let number = answers::number(answer);
     if number != 0 {
+        raise(tally, answer);
         *laid = [0; 8];
         return number;
     }
-    // A take that is followed keeps its name, so the bytes after it are all that can change. The records come last, when nothing is
-    // left to be kept meanwhile.
+    // A take that is followed keeps its name, so the bytes after it are all that can change. The records come when little is left to be
+    // kept meanwhile, and not last: with nothing after the loops the compiler sets the answer in each turn of each.
     let h = judged.header;
     let place = take::line::place_of(t, h);
     *laid = [
@@ -253,5 +253,6 @@ pub extern "C" fn tashmirok_follow(
     ];
     kept::store_followed(h, place, kept);
     take::follow::lay(h.format, h.frames, h.channels, datagram, place, track);
+    raise(tally, answer);
     0
 }

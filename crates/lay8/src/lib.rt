@@ -40,6 +40,16 @@ fn frame(d: &[u8], from: usize, channels: usize, out: &mut [u8])
     );
 }
 
+// A frame, in its record.
+fn one(d: &[u8], from: usize, channels: usize, track: &mut [u8], place: usize)
+    requires { ⌜ (channels ≤ 8) × (from + channels * sizeOf unsigned8 ≤ length (now d)) × (place * recordBytes + recordBytes ≤ length (now track)) ⌝ }
+    ensures { λ _. ⌜ now (track .exit) ≡ laidOf (now (track .entry)) place 1 (packetSlot unsigned8 (now (d .entry)) from channels) ⌝ }
+{
+    let a = place * RECORD;
+    let e = a + RECORD;
+    frame(d, from, channels, &mut track[a..e]);
+}
+
 // A frame a turn. Called with a literal count, the tests on it fold away.
 fn some(d: &[u8], from: usize, frames: usize, channels: usize, track: &mut [u8], place: usize)
     requires { ⌜ (channels ≤ 8) × (from + frames * (channels * sizeOf unsigned8) ≤ length (now d)) × (place * recordBytes + frames * recordBytes ≤ length (now track)) ⌝ }
@@ -48,11 +58,46 @@ fn some(d: &[u8], from: usize, frames: usize, channels: usize, track: &mut [u8],
     let step = channels * Integer::UNSIGNED8_SIZE;
     let mut k = 0;
     while k < frames {
-        let a = (place + k) * RECORD;
-        let e = a + RECORD;
-        frame(d, from + k * step, channels, &mut track[a..e]);
+        one(d, from + k * step, channels, track, place + k);
         k += 1;
     }
+}
+
+// The next two frames.
+fn two(d: &[u8], from: usize, channels: usize, track: &mut [u8], place: usize)
+    requires { ⌜ (channels ≤ 8) × (from + 2 * (channels * sizeOf unsigned8) ≤ length (now d)) × (place * recordBytes + 2 * recordBytes ≤ length (now track)) ⌝ }
+    ensures { λ _. ⌜ now (track .exit) ≡ laidOf (now (track .entry)) place 2 (packetSlot unsigned8 (now (d .entry)) from channels) ⌝ }
+{
+    one(d, from, channels, track, place);
+    one(
+        d,
+        from + channels * Integer::UNSIGNED8_SIZE,
+        channels,
+        track,
+        place + 1,
+    );
+}
+
+// Two frames a turn, and the one that may be left.
+fn few(d: &[u8], from: usize, frames: usize, channels: usize, track: &mut [u8], place: usize)
+    requires { ⌜ (channels ≤ 8) × (from + frames * (channels * sizeOf unsigned8) ≤ length (now d)) × (place * recordBytes + frames * recordBytes ≤ length (now track)) ⌝ }
+    ensures { λ _. ⌜ now (track .exit) ≡ laidOf (now (track .entry)) place frames (packetSlot unsigned8 (now (d .entry)) from channels) ⌝ }
+{
+    let step = channels * Integer::UNSIGNED8_SIZE;
+    let count = frames / 2;
+    let mut k = 0;
+    while k < count {
+        two(d, from + k * 2 * step, channels, track, place + k * 2);
+        k += 1;
+    }
+    some(
+        d,
+        from + count * 2 * step,
+        frames % 2,
+        channels,
+        track,
+        place + count * 2,
+    );
 }
 
 // Eight bytes less 128 each, as signed ones: at once, since the top bit of each is all that differs.
@@ -117,7 +162,7 @@ pub fn lay(d: &[u8], from: usize, frames: usize, channels: usize, track: &mut [u
         return;
     }
     if channels == 1 {
-        some(d, from, frames, 1, track, place);
+        few(d, from, frames, 1, track, place);
         return;
     }
     some(d, from, frames, channels, track, place);

@@ -1,7 +1,7 @@
 // Taking signed samples of 24 bits out.
 ghost use mathlib.Core.Path.{_≡_};
 ghost use Prim.Native.Nat.{_+_, _*_, _<_, _≤_};
-ghost use lib.ListN.{length};
+ghost use lib.ListN.{length, take, drop};
 ghost use Rattle.formats.specs.Formats.{signed24, sizeOf};
 ghost use Rattle.lists.specs.Lists.{put};
 ghost use Rattle.track_rules.specs.Records.{recordBytes, takenOf};
@@ -9,6 +9,12 @@ ghost use Rattle.records.specs.Frames.{sentAt, frameOut};
 use formats::Integer;
 use samples::slots;
 use track_rules::RECORD;
+
+const TWO_RECORDS: usize = 2 * RECORD;
+
+const THREE_RECORDS: usize = 3 * RECORD;
+
+const FOUR_RECORDS: usize = 4 * RECORD;
 
 // Slot `c` of the record at `at`, as a sample.
 fn sample(track: &[u8], at: usize, c: usize) -> u32
@@ -50,74 +56,45 @@ fn some(track: &[u8], first: usize, frames: usize, channels: usize, out: &mut [u
     }
 }
 
-// A sample as two words: stores of three single bytes would not be joined.
-fn one_frame(track: &[u8], at: usize, out: &mut [u8])
-    requires { ⌜ (at + recordBytes ≤ length (now track)) × (length (now out) ≡ 1 * sizeOf signed24) ⌝ }
-    ensures { λ _. ⌜ now (out .exit) ≡ frameOut signed24 (now (track .entry)) at 1 ⌝ }
+// The first bytes of a record by one load and one store: four for one channel, eight for two.
+fn store(track: &[u8], from: usize, channels: usize, out: &mut [u8], at: usize)
+    requires { ⌜ (1 ≤ channels) × (channels ≤ 2) × (from + channels * 4 ≤ length (now track)) × (at + channels * 4 ≤ length (now out)) ⌝ }
+    ensures { λ _. ⌜ now (out .exit) ≡ put (now (out .entry)) at (take (channels * 4) (drop from (now (track .entry)))) ⌝ }
 {
-    let a = words::get2(track, at);
-    let b = words::get1(track, at + 2);
-    words::put2(&mut out[0..2], a);
-    words::put1(&mut out[2..3], b);
+    if channels == 1 {
+        let v = words::get4(track, from);
+        let m = at + 4;
+        words::put4(&mut out[at..m], v);
+        return;
+    }
+    let w = words::get8(track, from);
+    let e = at + 8;
+    words::put8(&mut out[at..e], w);
 }
 
-// A frame a turn by one store of four bytes: what it writes too much the next frame writes over, so the last is written by itself.
-fn ones(track: &[u8], first: usize, frames: usize, out: &mut [u8], at: usize)
-    requires { ⌜ ((first + frames) * recordBytes ≤ length (now track)) × (at + frames * (1 * sizeOf signed24) ≤ length (now out)) ⌝ }
-    ensures { λ _. ⌜ now (out .exit) ≡ put (now (out .entry)) at (takenOf signed24 (now (track .entry)) first frames 1) ⌝ }
+// One channel or two: four frames a turn, each by one store that is longer than a frame. What it writes too much the next one writes
+// over, so the last frames are written by themselves. Called with a literal count, the tests on it fold away.
+fn few(track: &[u8], first: usize, frames: usize, channels: usize, out: &mut [u8], at: usize)
+    requires { ⌜ (1 ≤ channels) × (channels ≤ 2) × ((first + frames) * recordBytes ≤ length (now track)) × (at + frames * (channels * sizeOf signed24) ≤ length (now out)) ⌝ }
+    ensures { λ _. ⌜ now (out .exit) ≡ put (now (out .entry)) at (takenOf signed24 (now (track .entry)) first frames channels) ⌝ }
 {
     if frames == 0 {
         return;
     }
-    let last = frames - 1;
+    let step = channels * Integer::SIGNED24_SIZE;
     let mut k = 0;
     let mut from = first * RECORD;
     let mut a = at;
-    while k < last {
-        let w = words::get4(track, from);
-        let e = a + 4;
-        words::put4(&mut out[a..e], w);
-        from += RECORD;
-        a += 3;
-        k += 1;
+    while k + 4 < frames {
+        store(track, from, channels, out, a);
+        store(track, from + RECORD, channels, out, a + step);
+        store(track, from + TWO_RECORDS, channels, out, a + 2 * step);
+        store(track, from + THREE_RECORDS, channels, out, a + 3 * step);
+        from += FOUR_RECORDS;
+        a += 4 * step;
+        k += 4;
     }
-    let e = a + 3;
-    one_frame(track, from, &mut out[a..e]);
-}
-
-// Two samples as two words.
-fn pair_frame(track: &[u8], at: usize, out: &mut [u8])
-    requires { ⌜ (at + recordBytes ≤ length (now track)) × (length (now out) ≡ 2 * sizeOf signed24) ⌝ }
-    ensures { λ _. ⌜ now (out .exit) ≡ frameOut signed24 (now (track .entry)) at 2 ⌝ }
-{
-    let a = words::get4(track, at);
-    let b = words::get2(track, at + 4);
-    words::put4(&mut out[0..4], a);
-    words::put2(&mut out[4..6], b);
-}
-
-// The same as for one channel, by stores of eight bytes.
-fn pairs(track: &[u8], first: usize, frames: usize, out: &mut [u8], at: usize)
-    requires { ⌜ ((first + frames) * recordBytes ≤ length (now track)) × (at + frames * (2 * sizeOf signed24) ≤ length (now out)) ⌝ }
-    ensures { λ _. ⌜ now (out .exit) ≡ put (now (out .entry)) at (takenOf signed24 (now (track .entry)) first frames 2) ⌝ }
-{
-    if frames == 0 {
-        return;
-    }
-    let last = frames - 1;
-    let mut k = 0;
-    let mut from = first * RECORD;
-    let mut a = at;
-    while k < last {
-        let w = words::get8(track, from);
-        let e = a + 8;
-        words::put8(&mut out[a..e], w);
-        from += RECORD;
-        a += 6;
-        k += 1;
-    }
-    let e = a + 6;
-    pair_frame(track, from, &mut out[a..e]);
+    some(track, first + k, frames - k, channels, out, a);
 }
 
 // Eight channels of 24 bits are the record, byte for byte.
@@ -140,7 +117,7 @@ pub fn take_out(
     ensures { λ _. ⌜ now (out .exit) ≡ put (now (out .entry)) at (takenOf signed24 (now (track .entry)) first frames channels) ⌝ }
 {
     if channels == 2 {
-        pairs(track, first, frames, out, at);
+        few(track, first, frames, 2, out, at);
         return;
     }
     if channels == 8 {
@@ -148,7 +125,7 @@ pub fn take_out(
         return;
     }
     if channels == 1 {
-        ones(track, first, frames, out, at);
+        few(track, first, frames, 1, out, at);
         return;
     }
     some(track, first, frames, channels, out, at);

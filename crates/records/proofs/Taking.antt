@@ -69,6 +69,21 @@ unfolding takenOf framesOut frameOut sentAt
 taken-frames f t first n channels = upTo-same n _ _ (λ k h.
     let e : first * 24 + k * 24 ≡ (first + k) * 24 = omega arith in rw e)
 
+-- m of them, and n after them
+pub taken-joined : (f : Format) (t : List ℕ) (first m n channels : ℕ)
+    → takenOf f t first (m + n) channels ≡ takenOf f t first m channels ++ takenOf f t (first + m) n channels
+taken-joined f t first m n channels =
+    rw (
+      ← taken-frames f t first (m + n) channels,
+      ← taken-frames f t first m channels,
+      ← taken-frames f t (first + m) n channels,
+      add-mul first m 24,
+    )
+    (frames-joined f t (first * 24) 24 m n channels)
+
+pub taken-length : (f : Format) (t : List ℕ) (first n channels : ℕ) → length (takenOf f t first n channels) ≡ n * (channels * sizeOf f)
+taken-length f t first n channels = rw (← taken-frames f t first n channels) (frames-length f t (first * 24) 24 n channels)
+
 -- no frames are none
 pub none : (f : Format) (t : List ℕ) (first frames channels : ℕ) (out₀ : List ℕ) (place : ℕ) → frames ≡ 0
     → out₀ ≡ put out₀ place (takenOf f t first frames channels)

@@ -1,4 +1,4 @@
--- What the loops that take out write in a turn: a record that starts at a byte of the track. There is nothing to believe here.
+-- What the code's loops read and write in a turn. There is nothing to believe here.
 use Prim.Native.Nat.{ℕ, _+_, _*_}
 use mathlib.Core.List.{List}
 use Rattle.lists.specs.Lists.{upTo}
@@ -7,6 +7,10 @@ use Rattle.formats.specs.declared.Format.{Format}
 use Rattle.formats.specs.Formats.{sizeOf}
 use Rattle.sample_rules.specs.Bits.{sentOf}
 use Rattle.track_rules.specs.Records.{slotBytes}
+
+-- four slots, given by their bits, as half a record
+unfoldable pub halfOf : (ℕ → ℕ) → List ℕ
+halfOf slots = upTo 4 (λ c. bytesOf slotBytes (slots c))
 
 -- slot c of the record that starts at byte at, as a sample of the type
 unfoldable pub sentAt : Format → List ℕ → ℕ → ℕ → ℕ

@@ -1,4 +1,4 @@
--- The take is loaded, the datagram judged and the count raised; where it is accepted, the take is stored and the records are laid.
+-- The take is loaded and the datagram judged; where it is accepted, the take is stored and the records are laid; the count is raised.
 use mathlib.Core.Path.{_≡_, sym}
 use Prim.Native.Nat.{_^_, _<_}
 use native.Mathlib.Omega.{arith}
@@ -24,19 +24,20 @@ short c = search needs
 
 -- what the number of the answer was found after
 abbrev judging : tie.After-number → tie.After-judge
-judging m = m .before .before .before
+judging m = m .before
 
 abbrev loading : tie.After-number → tie.After-load
 loading m = judging m .before .before .before .before .before .before
 
 refuses : tie.Need-returns
 refuses c =
-    let m = c .before .before in
+    let r = c .before in
+    let m = r .before .before .before in
     let j = judging m in
     let l = loading m in
     let a = given l .args in
     let t = told-refused (a .kept .now) (a .tally .now) (a .datagram .now) (a .track .now) (a .address) _ _ _ _ (l .load .ensures) (j .before .held .ensures)
-    (j .judge .ensures) (m .number .ensures) _ (m .before .raise .ensures) (c .before .if1 .taken) in
+    (j .judge .ensures) (m .number .ensures) _ (r .raise .ensures) (r .before .before .if1 .taken) in
     (t .answer, (t .words, (t .take-kept, (t .counted, t .track-laid))))
 
 -- what the functions of a packet that is accepted ask
@@ -52,7 +53,8 @@ asks m z =
 
 accepts : tie.Need-returns-2
 accepts c =
-    let s = c .before .before .before .before in
+    let y = c .before .before .before .before in
+    let s = y .before .before in
     let k = s .before .before .before in
     let p = k .before .before in
     let m = p .before .before .before in
@@ -60,9 +62,9 @@ accepts c =
     let l = loading m in
     let a = given l .args in
     let t = told-accepted (a .kept .now) (a .tally .now) (a .datagram .now) (a .track .now) (a .address) _ _ _ _ (l .load .ensures) (j .before .held .ensures)
-    (j .judge .ensures) (m .number .ensures) _ (m .before .raise .ensures) (p .before .before .if1 .left) (forty l) _ _ _ _ (p .place-of .ensures)
+    (j .judge .ensures) (m .number .ensures) _ (c .raise2 .ensures) (p .before .before .if1 .left) (forty l) _ _ _ _ (p .place-of .ensures)
     (k .skipped .ensures)
-    (s .store-followed .ensures) (c .before .before .lay .ensures) in
+    (s .store-followed .ensures) (y .lay .ensures) in
     (t .answer, (t .words, (t .take-kept, (t .counted, t .track-laid))))
 
 pub tashmirok-follow-spec : {M : Type 1} → statement M
@@ -96,5 +98,6 @@ tashmirok-follow-spec =
     let p = c .before .before .before .before .before .before in
     let q = asks (p .before .before .before) (p .before .before .if1 .left) in
     (q .typed, (q .channels-few, q .exact, omega (arith, p .place-of .ensures, q .within))))
+    (λ c κs. search needs)
     (λ c. search needs)
     accepts)

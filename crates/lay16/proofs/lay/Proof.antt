@@ -8,13 +8,13 @@ pub lay-spec : {M : Type 1} → statement M
 lay-spec =
     tie.close
     (tie.spec
-    (λ c κs. (search needs, search room-for, search needs))
+    (λ c κs. (search needs, search needs, search room-for, search needs))
     (λ c. search needs)
     (λ c. search for-count)
     (λ c κs. (search room-for, search needs))
     (λ c. search needs)
     (λ c. search for-count)
-    (λ c κs. (search needs, search room-for, search needs))
+    (λ c κs. (search needs, search needs, search room-for, search needs))
     (λ c. search needs)
     (λ c. search for-count)
     (λ c κs. search needs)

@@ -9,13 +9,13 @@ pub take-out-spec : {M : Type 1} → statement M
 take-out-spec =
     tie.close
     (tie.spec
-    (λ c κs. (search needs, search room-for))
+    (λ c κs. (search needs, search needs, search needs, search room-for))
     (λ c. search needs)
     (λ c. search taken-count)
     (λ c κs. (search needs, search room-for))
     (λ c. search needs)
     (λ c. search taken-count)
-    (λ c κs. (search needs, search room-for))
+    (λ c κs. (search needs, search needs, search needs, search room-for))
     (λ c. search needs)
     (λ c. search taken-count)
     (λ c κs. search needs)

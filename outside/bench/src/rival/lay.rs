@@ -23,6 +23,18 @@ fn frames<const BYTES: usize>(data: &[u8], records: &mut [u8], words: impl Fn(&[
     }
 }
 
+/// Two frames a turn, and the one that may be left: not every compiler unrolls so small a loop.
+#[inline(always)]
+fn pairs<const BYTES: usize>(data: &[u8], records: &mut [u8], words: impl Fn(&[u8; BYTES]) -> [u64; 3]) {
+    let (mut two, mut both) = (records.chunks_exact_mut(48), data.chunks_exact(2 * BYTES));
+    for (records, frames) in two.by_ref().zip(both.by_ref()) {
+        let (first, second) = frames.split_at(BYTES);
+        put(words(first.try_into().expect("a frame's bytes")), &mut records[..24]);
+        put(words(second.try_into().expect("a frame's bytes")), &mut records[24..]);
+    }
+    frames(both.remainder(), two.into_remainder(), words);
+}
+
 /// The slots of a frame, by a function of one sample's bytes.
 #[inline(always)]
 fn slots<const BYTES: usize, const SIZE: usize>(
@@ -51,7 +63,7 @@ fn eight8(frame: &[u8; 8]) -> [u64; 3] {
 fn lay8(channels: u16, data: &[u8], records: &mut [u8]) {
     let from8 = |[byte]: [u8; 1]| u64::from(byte) << 16 ^ 0x80_0000;
     match channels {
-        1 => frames::<1>(data, records, |frame| slots(frame, from8)),
+        1 => pairs::<1>(data, records, |frame| slots(frame, from8)),
         2 => frames::<2>(data, records, |frame| slots(frame, from8)),
         3 => frames::<3>(data, records, |frame| slots(frame, from8)),
         4 => frames::<4>(data, records, |frame| slots(frame, from8)),
@@ -62,17 +74,29 @@ fn lay8(channels: u16, data: &[u8], records: &mut [u8]) {
     }
 }
 
+/// Eight channels: every slot has a sample, so four samples in a row become three words of four bytes.
+fn halves(data: &[u8], records: &mut [u8]) {
+    for (half, samples) in records.chunks_exact_mut(12).zip(data.chunks_exact(8)) {
+        let word = |at: usize| u32::from_le_bytes(samples[at..at + 4].try_into().expect("two samples"));
+        let (a, b) = (word(0), word(4));
+        let words = [(a & 0xFFFF) << 8, a >> 16 | b << 24, b >> 8 & 0xFF | b & 0xFFFF_0000];
+        for (to, word) in half.chunks_exact_mut(4).zip(words) {
+            to.copy_from_slice(&word.to_le_bytes());
+        }
+    }
+}
+
 fn lay16(channels: u16, data: &[u8], records: &mut [u8]) {
     let from16 = |bytes: [u8; 2]| u64::from(u16::from_le_bytes(bytes)) << 8;
     match channels {
-        1 => frames::<2>(data, records, |frame| slots(frame, from16)),
-        2 => frames::<4>(data, records, |frame| slots(frame, from16)),
+        1 => pairs::<2>(data, records, |frame| slots(frame, from16)),
+        2 => pairs::<4>(data, records, |frame| slots(frame, from16)),
         3 => frames::<6>(data, records, |frame| slots(frame, from16)),
         4 => frames::<8>(data, records, |frame| slots(frame, from16)),
         5 => frames::<10>(data, records, |frame| slots(frame, from16)),
         6 => frames::<12>(data, records, |frame| slots(frame, from16)),
         7 => frames::<14>(data, records, |frame| slots(frame, from16)),
-        _ => frames::<16>(data, records, |frame| slots(frame, from16)),
+        _ => halves(data, records),
     }
 }
 
