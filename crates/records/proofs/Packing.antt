@@ -13,7 +13,7 @@ use Rattle.track_rules.specs.Records.{recordOf}
 use Rattle.records.specs.Frames.{halfOf}
 
 -- the part after what is written already
-after : (d s t xs : List ℕ) (n m : ℕ) → xs ≡ put d 0 s → length s ≡ n → length t ≡ m → putMid n m xs t ≡ put d 0 (s ++ t)
+pub after : (d s t xs : List ℕ) (n m : ℕ) → xs ≡ put d 0 s → length s ≡ n → length t ≡ m → putMid n m xs t ≡ put d 0 (s ++ t)
 after d s t xs n m p hs ht = rw (p, lent (put d 0 s) t n m ht) (put-next d s t n hs)
 
 -- three words of n bytes over the whole of what was lent
