@@ -1,7 +1,7 @@
 // Laying by way of a block of slots, over the type: only `fill` knows which. Samples of 32 bits are laid so.
 ghost use mathlib.Core.Path.{_≡_};
 ghost use mathlib.Core.Bool.{true};
-ghost use Prim.Native.Nat.{_+_, _*_, _<_, _≤_, min};
+ghost use Prim.Native.Nat.{_+_, _*_, _<_, _≤_};
 ghost use lib.ListN.{length};
 ghost use Rattle.formats.specs.Formats.{sizeOf};
 ghost use Rattle.track_rules.specs.Records.{recordBytes, recordOf, laidOf, packetSlot};
@@ -54,12 +54,6 @@ fn lay_all(block: &[u32], frames: usize, channels: usize, track: &mut [u8], plac
     }
 }
 
-fn at_most(n: usize, most: usize) -> usize
-    ensures { λ r. ⌜ r ≡ min n most ⌝ }
-{
-    if n < most { n } else { most }
-}
-
 // Frames of one block, or what is left of them, a turn.
 fn blocks(
     f: Format,
@@ -78,7 +72,7 @@ fn blocks(
     let mut block = [0u32; 128];
     let mut k = 0;
     while k < frames {
-        let n = at_most(frames - k, most);
+        let n = lists::at_most(frames - k, most);
         fill(f, d, from + k * step, n * channels, &mut block);
         lay_all(&block, n, channels, track, place + k);
         k += n;

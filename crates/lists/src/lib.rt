@@ -1,5 +1,7 @@
-// What every layer uses: a byte of a slice, a count outside its range. The definitions and laws beside it are in specs/ and proofs/.
+// What every layer uses: a byte of a slice, a count outside its range, the lesser of two. The definitions and laws beside it are in specs/
+// and proofs/.
 ghost use mathlib.Core.Path.{_≡_};
+ghost use Prim.Native.Nat.{min};
 ghost use Rattle.lists.specs.Lists.{byte};
 ghost use Rattle.lists.specs.Tables.{outside};
 
@@ -21,4 +23,10 @@ pub fn is_outside(n: u16, top: u16) -> bool
         return true;
     }
     false
+}
+
+pub fn at_most(n: usize, most: usize) -> usize
+    ensures { λ r. ⌜ r ≡ min n most ⌝ }
+{
+    if n < most { n } else { most }
 }

@@ -1,6 +1,6 @@
 // Taking unsigned samples of 8 bits out.
 ghost use mathlib.Core.Path.{_≡_};
-ghost use Prim.Native.Nat.{_+_, _*_, _%_, _<_, _≤_, min};
+ghost use Prim.Native.Nat.{_+_, _*_, _%_, _<_, _≤_};
 ghost use lib.ListN.{length};
 ghost use Rattle.formats.specs.Formats.{unsigned8, sizeOf};
 ghost use Rattle.lists.specs.Lists.{put};
@@ -101,12 +101,6 @@ fn sixteen_frames(track: &[u8], at: usize, out: &mut [u8])
     words::put4(&mut out[12..16], y);
 }
 
-fn at_most(n: usize, most: usize) -> usize
-    ensures { λ r. ⌜ r ≡ min n most ⌝ }
-{
-    if n < most { n } else { most }
-}
-
 // Sixteen frames a turn, and those that are left. Where a turn reads is bounded by the end, which it never reaches: the compiler would
 // else do four turns at once, no faster and with four times the code.
 fn ones(track: &[u8], first: usize, frames: usize, out: &mut [u8], at: usize)
@@ -121,7 +115,7 @@ fn ones(track: &[u8], first: usize, frames: usize, out: &mut [u8], at: usize)
     while k < count {
         let e = a + 16;
         sixteen_frames(track, from, &mut out[a..e]);
-        from = at_most(from + SIXTEEN_RECORDS, end);
+        from = lists::at_most(from + SIXTEEN_RECORDS, end);
         a = e;
         k += 1;
     }

@@ -83,15 +83,18 @@ module _ (f : Format) (d : List ℕ) (from frames channels : ℕ) (track₀ : Li
       let z : frames / 2 ≡ k = omega (arith, l .turns) in
       lay-end _ frames track₀ place out _ (lay-more f d from frames channels track₀ place track (k * 2) l (frames % 2) out (omega arith) (rw (← z) p)) (omega arith)
 
--- a record is one frame
+-- a record, in the part of the track that it is lent
+pub record-lent : (track ys : List ℕ) (a : ℕ) (slots : ℕ → ℕ) → ys ≡ recordOf slots → putMid a (a + 24 - a) track ys ≡ put track a (recordOf slots)
+record-lent track ys a slots p =
+    lent track ys a (a + 24 - a) (ap length p ∙ record-length slots ∙ sym (add-sub-cancel-left a 24)) ∙ ap (put track a) p
+
+-- it is one frame
 pub lay-first : (f : Format) (d : List ℕ) (from channels : ℕ) (track : List ℕ) (place : ℕ) (ys : List ℕ) → ys ≡ recordOf (frameSlot f d from channels)
     → putMid (place * 24) (place * 24 + 24 - place * 24) track ys ≡ laidOf track place 1 (packetSlot f d from channels)
 unfolding laidOf recordsOf packetSlot upTo
 lay-first f d from channels track place ys p =
-    let a = place * 24 in
-    let n : length ys ≡ a + 24 - a = ap length p ∙ record-length _ ∙ sym (add-sub-cancel-left a 24) in
     let z : from ≡ from + 0 * (channels * sizeOf f) = sym (rw zero-mul (add-zero from)) in
-    lent track ys a (a + 24 - a) n ∙ ap (put track a) (p ∙ ap (λ (x : ℕ). recordOf (frameSlot f d x channels)) z)
+    record-lent track ys (place * 24) _ p ∙ ap (λ (x : ℕ). put track (place * 24) (recordOf (frameSlot f d x channels))) z
 
 -- two records are two
 pub lay-second : (track : List ℕ) (place : ℕ) (g : ℕ → ℕ → ℕ) (out last : List ℕ) → place * 24 ≤ length track → out ≡ put track (place * 24) (recordOf (g 0))

@@ -1,23 +1,19 @@
 -- A record, in the part of the track that it is lent.
-use mathlib.Core.Path.{_≡_, sym, ap, _∙_}
+use mathlib.Core.Path.{_≡_, _∙_}
 use mathlib.Core.List.{List, _∷_, []}
 use Prim.Native.Nat.{ℕ, _+_, _-_}
-use native.Mathlib.Nat.{add-sub-cancel-left}
 use native.Mathlib.Omega.{arith}
-use lib.ListN.{length}
 use borrow.Author.Needs.{needs}
 use borrow.Rule.Slice.PartMut.{putMid}
 use Rattle.lists.specs.Lists.{byte, put}
-use Rattle.lists.proofs.Lists.{lent}
 use Rattle.track_rules.specs.Records.{recordOf}
-use Rattle.track_rules.proofs.Laws.{record-length}
+use Rattle.records.proofs.Laying.{record-lent}
 use Rattle.lay16.proofs.small.Statement.{statement}
 use Rattle.lay16.proofs.small.Tie as tie
 
 stored : (track ys : List ℕ) (a c0 c1 x0 x1 : ℕ) → x0 ≡ c0 → x1 ≡ c1 → ys ≡ recordOf (byte (x0 ∷ x1 ∷ 0 ∷ 0 ∷ 0 ∷ 0 ∷ 0 ∷ 0 ∷ []))
     → putMid a (a + 24 - a) track ys ≡ put track a (recordOf (byte (c0 ∷ c1 ∷ 0 ∷ 0 ∷ 0 ∷ 0 ∷ 0 ∷ 0 ∷ [])))
-stored track ys a c0 c1 x0 x1 e f p =
-    lent track ys a (a + 24 - a) (ap length p ∙ record-length _ ∙ sym (add-sub-cancel-left a 24)) ∙ rw (p, e, f)
+stored track ys a c0 c1 x0 x1 e f p = record-lent track ys a _ p ∙ rw (e, f)
 
 pub small-spec : {M : Type 1} → statement M
 small-spec =
