@@ -5,7 +5,7 @@ ghost use Rattle.std.specs.Prelude.{◌≡◌};
 ghost use Rattle.answers.specs.Numbers.{number_of, number_made, count_of};
 
 // What reading, opening and following answer.
-#[derive(Drop)]
+#[derive(Clone, Copy)]
 pub enum Answer {
     Accepted,
     Short,
@@ -27,7 +27,7 @@ pub enum Answer {
 }
 
 // What converting, writing and cutting answer.
-#[derive(Drop)]
+#[derive(Clone, Copy)]
 pub enum Made {
     Done,
     Form,

@@ -4,14 +4,14 @@
 use answers::Made;
 
 // The most frames that a packet can have.
-#[derive(Drop)]
+#[derive(Clone, Copy)]
 pub struct Largest {
     pub answer: Made,
     pub frames: u16,
 }
 
 // The bytes of the packet that was cut.
-#[derive(Drop)]
+#[derive(Clone, Copy)]
 pub struct Cut {
     pub answer: Made,
     pub length: usize,

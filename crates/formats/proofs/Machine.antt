@@ -19,7 +19,7 @@ abbrev pub Int : ℤ → ℤ
 Int z = to_z w32 (of_z w32 z)
 
 pub back : (z : ℤ) → mag z < 2 ^ 63 → Long z ≡ z
-back z h = to_z-of_z (record { sfits = h })
+back z h = to_z-of_z {w = w64} (record { sfits = h })
 
 pub wider : {z : ℤ} → SFits w32 z → SFits w64 z
 wider s = sfits_widen tt s

@@ -5,7 +5,7 @@ ghost use Rattle.std.specs.Prelude.{◌≡◌, ◌≤◌};
 ghost use Rattle.formats.specs.Formats.{format_of, may_read, may_send, may_convert, whole_size, size_of, size_at, width_of, lowest_of, highest_of, middle_of, has};
 
 // The whole numbers, each with its own size, width, lowest and highest number.
-#[derive(Drop)]
+#[derive(Clone, Copy)]
 pub enum Integer {
     Unsigned8,
     Signed16,
@@ -14,7 +14,7 @@ pub enum Integer {
 }
 
 // A data type: a whole number, or another that is recognised and refused.
-#[derive(Drop)]
+#[derive(Clone, Copy)]
 pub enum Format {
     Whole(Integer),
     Other,

@@ -26,7 +26,7 @@ pub fn follow(
 }
 
 // What following gives where the counts are plain numbers.
-#[derive(Drop)]
+#[derive(Clone, Copy)]
 pub struct Counted {
     pub followed: Followed,
     pub counts: [u32; 17],

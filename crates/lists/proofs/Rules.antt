@@ -37,24 +37,32 @@ module _ {A : Type 0} {a : A} {rest : Type 0} where
 
 module _ {A : Type 0} (passed : A) where
   holds : (rows : List (Row A)) (rules : Rules A) → Judges rows rules → AllHold rules → first passed rows ≡ passed
+  holds [] (rule a p rest) j h = elim j [ ]
+  holds (r ∷ rows) done j h = elim j [ ]
   holds [] done j h = refl
   holds (r ∷ rows) (rule a p rest) j h =
       by_test (λ b. choose b r.says (first passed rows) ≡ passed) r.refuses
       (λ t. absurd (j.1 t h.0)) (λ t. holds rows rest j.3 h.1)
 
   held : (rows : List (Row A)) (rules : Rules A) → Judges rows rules → NoneAnswers passed rules → first passed rows ≡ passed → AllHold rules
+  held [] (rule a p rest) j n = elim j [ ]
+  held (r ∷ rows) done j n = elim j [ ]
   held [] done j n = λ e. tt
   held (r ∷ rows) (rule a p rest) j n =
       by_test (λ b. choose b r.says (first passed rows) ≡ passed → p × AllHold rest) r.refuses
       (λ t e. absurd (n.0 (sym j.0 ∙ e))) (λ t e. (j.2 t, held rows rest j.3 n.1 e))
 
   broken : (rows : List (Row A)) (rules : Rules A) → Judges rows rules → (a : A) → (a ≡ passed → ⊥) → first passed rows ≡ a → FirstBroken rules a
+  broken [] (rule b p rest) j a z = elim j [ ]
+  broken (r ∷ rows) done j a z = elim j [ ]
   broken [] done j a z = λ e. z (sym e)
   broken (r ∷ rows) (rule b p rest) j a z =
       by_test (λ t. choose t r.says (first passed rows) ≡ a → ((a ≡ b) × (p → ⊥)) ⊎ (p × FirstBroken rest a)) r.refuses
       (λ t e. inl (sym e ∙ j.0, j.1 t)) (λ t e. inr (j.2 t, broken rows rest j.3 a z e))
 
   breaks : (rows : List (Row A)) (rules : Rules A) → Judges rows rules → (a : A) → FirstBroken rules a → first passed rows ≡ a
+  breaks [] (rule b p rest) j a f = elim j [ ]
+  breaks (r ∷ rows) done j a f = elim j [ ]
   breaks [] done j a f = absurd f
   breaks (r ∷ rows) (rule b p rest) j a f =
       by_test (λ t. choose t r.says (first passed rows) ≡ a) r.refuses
@@ -63,6 +71,8 @@ module _ {A : Type 0} (passed : A) where
 
   -- a table whose rows never say `passed` judges rules that never answer it
   pub none_answers : (rows : List (Row A)) (rules : Rules A) → Judges rows rules → NoneSays passed rows → NoneAnswers passed rules
+  none_answers [] (rule a p rest) j n = elim j [ ]
+  none_answers (r ∷ rows) done j n = elim j [ ]
   none_answers [] done j n = tt
   none_answers (r ∷ rows) (rule a p rest) j n = ((λ e. n.0 (j.0 ∙ e)), none_answers rows rest j.3 n.1)
 

@@ -4,7 +4,7 @@
 use answers::Made;
 
 // What converting one number gives.
-#[derive(Drop)]
+#[derive(Clone, Copy)]
 pub struct Converted {
     pub answer: Made,
     pub value: i64,

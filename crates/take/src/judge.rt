@@ -13,7 +13,7 @@ use take_rules::{Line, Shape, Take};
 use wire_rules::Header;
 
 // What the checks say of a datagram, and its header's numbers where they pass.
-#[derive(Drop)]
+#[derive(Clone, Copy)]
 pub struct Judged {
     pub answer: Answer,
     pub header: Header,

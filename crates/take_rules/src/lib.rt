@@ -4,14 +4,14 @@
 use answers::Answer;
 
 // Whose datagrams a take follows.
-#[derive(Drop)]
+#[derive(Clone, Copy)]
 pub struct Who {
     pub name: [u8; 16],
     pub address: u32,
 }
 
 // What the first packet accepted fixes.
-#[derive(Drop)]
+#[derive(Clone, Copy)]
 pub struct Shape {
     pub rate: u8,
     pub channels: u16,
@@ -19,7 +19,7 @@ pub struct Shape {
 }
 
 // What places the next packet: N, and the counter and place of the newest one accepted.
-#[derive(Drop)]
+#[derive(Clone, Copy)]
 pub struct Line {
     pub n: u16,
     pub newest: u32,
@@ -27,7 +27,7 @@ pub struct Line {
 }
 
 // One stream being followed; shape and line are zero until it has begun.
-#[derive(Drop)]
+#[derive(Clone, Copy)]
 pub struct Take {
     pub who: Who,
     pub begun: bool,
@@ -36,21 +36,21 @@ pub struct Take {
 }
 
 // What a packet is to a take by its counter: its first, newer than its newest, or late.
-#[derive(Drop)]
+#[derive(Clone, Copy)]
 pub enum Decision {
     Opening,
     Ahead,
     Late,
 }
 
-#[derive(Drop)]
+#[derive(Clone, Copy)]
 pub struct Opened {
     pub answer: Answer,
     pub take: Take,
 }
 
 // What following tells of a datagram: zeros beside a refusal.
-#[derive(Drop)]
+#[derive(Clone, Copy)]
 pub struct Told {
     pub answer: Answer,
     pub place: usize,
@@ -59,20 +59,20 @@ pub struct Told {
 }
 
 // The same, with the take after it.
-#[derive(Drop)]
+#[derive(Clone, Copy)]
 pub struct Followed {
     pub told: Told,
     pub take: Take,
 }
 
 // One count for each answer of following.
-#[derive(Drop)]
+#[derive(Clone, Copy)]
 pub struct Tally {
     pub counts: [u32; 17],
 }
 
 // What following gives with the tally.
-#[derive(Drop)]
+#[derive(Clone, Copy)]
 pub struct Tallied {
     pub followed: Followed,
     pub tally: Tally,

@@ -11,7 +11,7 @@ use capture_rules::RECORD;
 use take_rules::Take;
 
 // What is kept from one record to the next, and how far the lines go.
-#[derive(Drop)]
+#[derive(Clone, Copy)]
 pub struct Kept {
     pub take: Take,
     pub counts: [u32; 17],

@@ -10,7 +10,7 @@ use take_rules::Take;
 mod block;
 
 // What is kept from one block of the capture to the next, and how many bytes came.
-#[derive(Drop)]
+#[derive(Clone, Copy)]
 struct Going {
     take: Take,
     counts: [u32; 17],

@@ -12,7 +12,7 @@ pub const DATA_MOST: usize = 1436;
 pub const LONGEST: usize = 1464;
 
 // Frames and channels are counts, the rate and the type are their indexes.
-#[derive(Drop)]
+#[derive(Clone, Copy)]
 pub struct Header {
     pub rate: u8,
     pub frames: u16,
@@ -23,14 +23,14 @@ pub struct Header {
 }
 
 // What the header alone gives, with zeros beside a refusal.
-#[derive(Drop)]
+#[derive(Clone, Copy)]
 pub struct HeaderRead {
     pub answer: Answer,
     pub header: Header,
 }
 
 // What reading gives, with zeros beside a refusal.
-#[derive(Drop)]
+#[derive(Clone, Copy)]
 pub struct Read {
     pub answer: Answer,
     pub header: Header,
@@ -38,14 +38,14 @@ pub struct Read {
 }
 
 // What writing gives: the length written, zero beside a refusal.
-#[derive(Drop)]
+#[derive(Clone, Copy)]
 pub struct Written {
     pub answer: Made,
     pub length: usize,
 }
 
 // What the rate of an index is.
-#[derive(Drop)]
+#[derive(Clone, Copy)]
 pub struct Rated {
     pub answer: Answer,
     pub hertz: u32,
