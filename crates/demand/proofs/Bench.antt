@@ -7,7 +7,7 @@ use lib.ListN.{length, drop}
 use borrow.Author.Tests.{lt-ltb}
 use Rattle.lists.specs.Lists.{put, up_to}
 use Rattle.lists.specs.Little.{little, bytes_of}
-use Rattle.bytes.specs.Bytes.{index_of, index_after}
+use Rattle.lists.specs.Lists.{index_of, index_after}
 use Rattle.answers.specs.Numbers.{number_of}
 use Rattle.formats.specs.Formats.{format_of, may_read, may_send, may_convert}
 use Rattle.sample_rules.specs.Convert.{narrowed, rescaled, converted, convert_of}

@@ -3,7 +3,7 @@ use mathlib.Core.Path.{◌≡◌, refl}
 use mathlib.Core.List.{[], ◌∷◌}
 use Rattle.lists.specs.Lists.{put, up_to}
 use Rattle.lists.specs.Little.{little, bytes_of}
-use Rattle.bytes.specs.Bytes.{index_of, index_after}
+use Rattle.lists.specs.Lists.{index_of, index_after}
 use Rattle.formats.specs.Formats.{format_of, may_read, may_send}
 use Rattle.sample_rules.specs.Convert.{narrowed, rescaled, converted}
 use Rattle.sample_rules.specs.Bits.{signed_of, bits_of, slot_of, sent_of}

@@ -12,7 +12,7 @@ use borrow.Author.Tests.{ltb-true}
 use Rattle.lists.specs.Lists.{byte, up_to}
 use Rattle.lists.specs.Tables.{choose}
 use Rattle.lists.proofs.Tables.{by_test, true_false}
-use Rattle.bytes.specs.Bytes.{index_of, index_after}
+use Rattle.lists.specs.Lists.{index_of, index_after}
 use Rattle.formats.specs.Formats.{format_of, may_send}
 use Rattle.wire_rules.specs.Names.{name_end, name_of, printable, good_name}
 use Rattle.track_rules.specs.Records.{records_held}

@@ -10,7 +10,7 @@ use lib.Dec.{ltb, eqb, eqb-suc-zero}
 use lib.ListN.{length, get_or, take, drop, replicate, length-append, length-take, length-replicate, take-append-drop, get_or-eq_default}
 use lib.Seq.{drop-nil}
 use borrow.Author.Tests.{le-ltb, ltb-false, eq-eqb, ne_eqb, eqb-true, eqb-false}
-use Rattle.bytes.specs.Bytes.{index_of, index_after}
+use Rattle.lists.specs.Lists.{index_of, index_after}
 use Rattle.lists.specs.Tables.{choose}
 use Rattle.lists.proofs.Tables.{by_test, true_false}
 use Rattle.wire_rules.specs.Names.{name_end, name_of, Ends, over, zero_next, NameEnds, printable, good_name, kept_name, same_bytes, same_name, GoodName}

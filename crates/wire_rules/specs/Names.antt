@@ -1,6 +1,6 @@
 -- Stream names (document 01, "The 28 bytes", Name). Nothing outside this file and its laws looks inside a name.
 use Rattle.std.specs.Prelude.{◌≡◌, ℕ, ◌-◌, ◌≤◌, ◌<◌, List, [], ◌∷◌, ◌++◌, Bool, true, false, length, get_or, take, replicate, ltb, eqb}
-use Rattle.bytes.specs.Bytes.{index_of}
+use Rattle.lists.specs.Lists.{index_of}
 use Rattle.lists.specs.Tables.{choose}
 
 -- where a name ends: before the first zero, or at the end

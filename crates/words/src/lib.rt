@@ -127,8 +127,9 @@ fn copy_block(src: &[u8], out: &mut [u8])
     ensures { out.new ≡ src.now }
 {
     let mut block = [0u8; 1464];
-    let n = bytes::copy(src, &mut block);
-    bytes::copy(&block[..n], out);
+    let n = src.len();
+    block[..n].copy_from_slice(src);
+    out.copy_from_slice(&block[..n]);
 }
 
 // `n` bytes of `d` from `from` on, written over `out` from `at` on.
@@ -142,7 +143,7 @@ pub fn copy(d: &[u8], from: usize, n: usize, out: &mut [u8], at: usize)
         copy_block(&d[from..past], &mut out[at..end]);
         return;
     }
-    bytes::copy(&d[from..past], &mut out[at..end]);
+    out[at..end].copy_from_slice(&d[from..past]);
 }
 
 // Writes `src` over `out` from `at` on.
@@ -151,5 +152,5 @@ pub fn place(src: &[u8], out: &mut [u8], at: usize)
     ensures { out.new ≡ put out.old at src.now }
 {
     let e = at + src.len();
-    bytes::copy(src, &mut out[at..e]);
+    out[at..e].copy_from_slice(src);
 }
