@@ -7,7 +7,14 @@ ghost use Rattle.wire.specs.Measured.{characters_of, measured};
 fn count(n: &[u8]) -> usize
     ensures { (result ≡ length (name_of n.now)) × (result ≤ length n.now) }
 {
-    bytes::scan::find(n, 0, n.len(), 0)
+    let mut i = 0;
+    while i < n.len() {
+        if n[i] == 0 {
+            return i;
+        }
+        i += 1;
+    }
+    i
 }
 
 // How many characters stand at the front: the bytes before the first that no name has, or all.
