@@ -1,5 +1,5 @@
 -- The whole slice, over a part of the other that is as long.
-use Rattle.std.proofs.Common.{length, sym, ◌∙◌}
+use Rattle.std.proofs.Common.{length, sym}
 use native.Mathlib.Nat.{add-sub_cancel_left}
 use Rattle.lists.proofs.Lists.{lent}
 use Rattle.words.proofs.place.Goals as goal
