@@ -10,8 +10,7 @@ use Rattle.answers.specs.declared.Answer.TheVariants.{Accepted}
 use Rattle.answers.specs.Numbers.{number_of}
 use Rattle.wire_rules.specs.declared.Header.{Header}
 use Rattle.wire_rules.specs.Header.{header_of, no_header, header_rows, header_alone}
-use Rattle.reader.proofs.header.alone.Statement.{statement}
-use Rattle.reader.proofs.header.alone.Tie as tie
+use Rattle.reader.proofs.header.alone.Goals as goal
 
 module _ (d : List ℕ) (a : Answer) (n : ℕ) (h : Header) (q : n ≡ number_of a) (e : a ≡ first Accepted (header_rows d)) where
   refused : (n ≡ 0 → ⊥) → h ≡ no_header → record { answer = a; header = h } ≡ header_alone d
@@ -22,13 +21,8 @@ module _ (d : List ℕ) (a : Answer) (n : ℕ) (h : Header) (q : n ≡ number_of
   unfolding header_alone
   accepted z p = rw (← e, eq-eqb (number_of a) 0 (sym q ∙ z), p)
 
-pub alone_spec : {M : Type 1} → statement M
-alone_spec =
-    tie.close
-    (tie.spec
-    (λ c κs. search rules)
-    (λ c κs. search rules)
-    (λ c κs. search rules)
-    (λ c. search refused)
-    (λ c κs. search rules)
-    (λ c. search accepted))
+pub returns-then-number-ne0 : goal.returns-then-number-ne0
+returns-then-number-ne0 c = search refused
+
+pub returns : goal.returns
+returns c = search accepted

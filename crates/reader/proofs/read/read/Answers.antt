@@ -12,8 +12,7 @@ use Rattle.wire_rules.specs.declared.Header.{Header}
 use Rattle.wire_rules.specs.Header.{header_of, no_header, data_size}
 use Rattle.wire_rules.specs.Read.{read_rows, read_of}
 use Rattle.reader.proofs.Rows.{long_enough}
-use Rattle.reader.proofs.read.read.Statement.{statement}
-use Rattle.reader.proofs.read.read.Tie as tie
+use Rattle.reader.proofs.read.read.Goals as goal
 
 module _ (d : List ℕ) (a : Answer) (n : ℕ) (h : Header) (q : n ≡ number_of a) (e : a ≡ first Accepted (read_rows d)) where
   refused : (n ≡ 0 → ⊥) → h ≡ no_header → record { answer = a; header = h; size = 0 } ≡ read_of d
@@ -24,14 +23,11 @@ module _ (d : List ℕ) (a : Answer) (n : ℕ) (h : Header) (q : n ≡ number_of
   unfolding read_of
   accepted s z p r = rw (← e, eq-eqb (number_of a) 0 (sym q ∙ z), r, p)
 
-pub read_spec : {M : Type 1} → statement M
-read_spec =
-    tie.close
-    (tie.spec
-    (λ c κs. search rules)
-    (λ c κs. search rules)
-    (λ c κs. search rules)
-    (λ c. search refused)
-    (λ c κs. search long_enough)
-    (λ c κs. search rules)
-    (λ c. search accepted))
+pub returns-then-number-ne0 : goal.returns-then-number-ne0
+returns-then-number-ne0 c = search refused
+
+pub fields-header-requires : goal.fields-header-requires
+fields-header-requires c = search long_enough
+
+pub returns : goal.returns
+returns c = search accepted

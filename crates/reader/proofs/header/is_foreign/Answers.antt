@@ -13,8 +13,7 @@ use Rattle.lists.proofs.Little.{little_byte}
 use Rattle.lists.proofs.Tables.{by_test}
 use Rattle.wire_rules.specs.Header.{foreign}
 use Rattle.wire_rules.proofs.Reading.{marked_bytes, mark_by}
-use Rattle.reader.proofs.header.is_foreign.Statement.{statement}
-use Rattle.reader.proofs.header.is_foreign.Tie as tie
+use Rattle.reader.proofs.header.is_foreign.Goals as goal
 
 module _ (d : List ℕ) (below : (i : ℕ) → byte d i < 256) where
   mark_told : (w : ℕ) → w ≡ little 4 d 0 → unlike w 0x4e414256 ≡ foreign d
@@ -31,9 +30,5 @@ module _ (d : List ℕ) (below : (i : ℕ) → byte d i < 256) where
       let b = marked_bytes d (mark_by d s) in
       absurd (eqb-false w 0x4e414256 t (e ∙ rw (b 0 (lit< tt), b 1 (lit< tt), b 2 (lit< tt), b 3 (lit< tt))))))
 
-pub is_foreign_spec : {M : Type 1} → statement M
-is_foreign_spec =
-    tie.close
-    (tie.spec
-    (λ c κs. search rules)
-    (λ c. mark_told c.before.before.args.d.now (λ j. (c.before.shared-slice-known.given j).fits) _ c.at4.ensures))
+pub returns : goal.returns
+returns c = mark_told c.args.d.now (λ j. (c.type_inv.d j).fits) _ c.at4.ensures

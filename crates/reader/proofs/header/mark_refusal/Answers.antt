@@ -1,0 +1,16 @@
+-- Each test is a row of the table.
+use borrow.Author.Rules.{rules}
+use Rattle.lists.proofs.Branches.{flag_yes, flag_no}
+use Rattle.reader.proofs.Rows.{negated}
+use Rattle.reader.proofs.header.mark_refusal.Goals as goal
+
+ruleset rows = (negated, flag_yes, flag_no)
+
+pub returns-then-is_foreign : goal.returns-then-is_foreign
+returns-then-is_foreign c = search rows depth 8
+
+pub returns-then-not-good : goal.returns-then-not-good
+returns-then-not-good c = search rows depth 8
+
+pub returns : goal.returns
+returns c = search rows depth 8
