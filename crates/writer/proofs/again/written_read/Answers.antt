@@ -22,8 +22,7 @@ use Rattle.wire_rules.specs.Write.{write_of, output_of}
 use Rattle.wire_rules.specs.Again.{kept_header, written_read, Typed}
 use Rattle.wire_rules.proofs.Writing.{write_within, write_done_gives, write_refused_length}
 use Rattle.wire_rules.proofs.RoundTrip.{written_reads_back}
-use Rattle.writer.proofs.again.written_read.Statement.{statement}
-use Rattle.writer.proofs.again.written_read.Tie as tie
+use Rattle.writer.proofs.again.written_read.Goals as goal
 
 module _ (h : Header) (samples out o : List ℕ) (w : Written) (t : Typed h) (e : w ≡ write_of h samples out) where
   within : length o ≡ length out → w.length ≤ length o
@@ -44,31 +43,26 @@ module _ (h : Header) (samples out o : List ℕ) (w : Written) (t : Typed h) (e 
       rw ((write_done_gives h samples out d).0, b.packet) b.fields)
       (λ s. rw (write_refused_length h samples out (λ d. eqb-false _ _ s (ap number_made d)))))
 
-typed : (c : tie.Start) → Typed c.args.h
+typed : (c : goal.Start) → Typed c.args.h
 typed c = record { sixteen = search rules; counter = search rules }
 
 -- the part that was written
-bound : (c : tie.After-slice-known2) → c.before.before.write.result.length ≤ length c.before.before.write.new.1.1.0
+bound : (c : goal.After-slice_known-2-1) → c.write-w.result.length ≤ length c.write-w.new.1.1.0
 bound c =
-    let s = c.before.before.before.before.before.before in
+    let s = c in
     let a = s.args in
-    let w = c.before.before.write in
+    let w = c.write-w in
     within a.h a.samples.now a.out.now w.new.1.1.0 _ (typed s) w.ensures.0 w.auto.1.1.0
 
-back : tie.Need-returns
-back c =
-    let s = c.before.before.before.before.before.before.before.before in
-    let a = s.args in
-    let b = c.before.before.before.before.write in
-    (reads a.h a.samples.now a.out.now _ _ (typed s) b.ensures.0 _ b.ensures.1 c.read.ensures, b.ensures.1)
+pub slice_bounds-read-end : goal.slice_bounds-read-end
+slice_bounds-read-end = bound
 
-pub written_read_spec : {M : Type 1} → statement M
-written_read_spec =
-    tie.close
-    (tie.spec
-    (λ c κs. search rules)
-    bound
-    (λ c. sym (length-take-le _ _ (bound c.before)))
-    (λ c κs. search rules)
-    (λ c. search rules)
-    back)
+pub slice_bounds-read-end-2 : goal.slice_bounds-read-end-2
+slice_bounds-read-end-2 c = sym (length-take-le _ _ (bound c))
+
+pub returns : goal.returns
+returns c =
+    let s = c in
+    let a = s.args in
+    let b = c.write-w in
+    (reads a.h a.samples.now a.out.now _ _ (typed s) b.ensures.0 _ b.ensures.1 c.read.ensures, b.ensures.1)

@@ -18,8 +18,7 @@ use Rattle.wire.specs.Measured.{measured}
 use Rattle.wire_rules.specs.Write.{packet_of, write_rows, write_of, output_of, GoodForm}
 use Rattle.wire.proofs.Measuring.{good_measured}
 use Rattle.wire_rules.proofs.Writing.{done_exactly}
-use Rattle.writer.proofs.write.write.Statement.{statement}
-use Rattle.writer.proofs.write.write.Tie as tie
+use Rattle.writer.proofs.write.write.Goals as goal
 
 module _ (h : Header) (samples out : List ℕ) (a : Made) (n : ℕ) (q : n ≡ number_made a)
     (e : a ≡ first Done (write_rows h (length samples) (length out))) where
@@ -42,29 +41,21 @@ module _ (h : Header) (samples out : List ℕ) (a : Made) (n : ℕ) (q : n ≡ n
       let t = eq-eqb (number_made a) 0 (sym q ∙ z) in
       (rw (← e, t), rw (← e, t) p)
 
-sixteen : (c : tie.Start) → length c.args.h.name ≡ 16
+sixteen : (c : goal.Start) → length c.args.h.name ≡ 16
 sixteen c = search rules
 
-pub write_spec : {M : Type 1} → statement M
-write_spec =
-    tie.close
-    (tie.spec
-    (λ c. search rules)
-    (λ c κs. search rules)
-    (λ c κs. search rules)
-    (λ c κs. search rules)
-    (λ c. refused _ _ _ _ _ c.before.number-made.ensures c.before.before.refusal.ensures c.if1.true)
-    (λ c. search rules)
-    (λ c κs.
-    let b = c.before.before.before in
-    let o = b.before.before.before.before.before.before.before in (
+pub returns-then-number_made-ne0 : goal.returns-then-number_made-ne0
+returns-then-number_made-ne0 c = refused _ _ _ _ _ c.number_made.ensures c.refusal-a.ensures c.if-number_made-ne0.true
+
+pub emit-requires : goal.emit-requires
+emit-requires c = let b = c in
+    let o = b in (
       search rules,
-      allowed _ o.args.samples.now o.args.out.now _ _ b.number-made.ensures b.before.refusal.ensures (sixteen o)
-          c.before.before.if1.false _ b.before.before.measure.ensures,
-    ))
-    (λ c. search rules)
-    (λ c. search rules)
-    (λ c.
-    let e = c.before.before in
-    let b = e.before.before.before.before in
-    written _ _ _ _ _ b.number-made.ensures b.before.refusal.ensures _ e.before.before.before.if1.false e.emit.ensures))
+      allowed _ o.args.samples.now o.args.out.now _ _ b.number_made.ensures b.refusal-a.ensures (sixteen o)
+          c.if-number_made-ne0.false _ b.measure-named.ensures,
+    )
+
+pub returns : goal.returns
+returns c = let e = c in
+    let b = e in
+    written _ _ _ _ _ b.number-made.ensures b.before.refusal.ensures _ e.if-number_made-ne0.false e.emit.ensures

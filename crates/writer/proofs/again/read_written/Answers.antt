@@ -14,8 +14,7 @@ use Rattle.wire_rules.specs.Read.{read_of}
 use Rattle.wire_rules.specs.Write.{write_of, output_of}
 use Rattle.wire_rules.specs.Again.{Repeats, Repeated}
 use Rattle.wire_rules.proofs.RoundTrip.{read_writes_back}
-use Rattle.writer.proofs.again.read_written.Statement.{statement}
-use Rattle.writer.proofs.again.read_written.Tie as tie
+use Rattle.writer.proofs.again.read_written.Goals as goal
 
 module _ (d out o s : List ℕ) (a : Read) (w : Written) (bytes : (i : ℕ) → byte d i < 256) (e : a ≡ read_of d) (p : s ≡ drop 28 d)
     (f : w ≡ write_of a.header s out) (g : o ≡ output_of a.header s out) where
@@ -30,29 +29,16 @@ module _ (d out o s : List ℕ) (a : Read) (w : Written) (bytes : (i : ℕ) → 
       let b = read_writes_back d out bytes r in
       record { answer = answer ∙ b.answer; output = output ∙ b.output }
 
-back : tie.Need-returns
-back c =
-    let r = c.before.before.before.before.before.before in
-    let k = r.before.before in
-    let d = k.before.args.d.now in
-    let w = c.before.before.write in
-    let n = c.before.before.before.before.before.data-start in
-    let bytes : (i : ℕ) → byte d i < 256 = λ i. omega (arith, k.shared-slice-known.given i) in
+pub returns : goal.returns
+returns c =
+    let r = c in
+    let k = r in
+    let d = k.args.d.now in
+    let w = c.write in
+    let n = c.data_start-from in
+    let bytes : (i : ℕ) → byte d i < 256 = λ i. omega (arith, k.type_inv.d i) in
     let p : take (length d - n.result) (drop n.result d) ≡ drop 28 d =
     take_all (length d - n.result) (drop n.result d) (le_of_eq (length-drop n.result d)) ∙ n.ensures.0 in
-    let x = answer d _ _ _ _ _ bytes r.read.ensures p w.ensures.0 w.ensures.1 in
-    let y = output d _ _ _ _ _ bytes r.read.ensures p w.ensures.0 w.ensures.1 in
-    (x, (y, again d _ _ _ _ _ bytes r.read.ensures p w.ensures.0 w.ensures.1))
-
-pub read_written_spec : {M : Type 1} → statement M
-read_written_spec =
-    tie.close
-    (tie.spec
-    (λ c κs. search rules)
-    (λ c κs. search rules)
-    (λ c. search rules)
-    (λ c. search rules)
-    (λ c. search rules)
-    (λ c κs. search rules)
-    (λ c. search rules)
-    back)
+    let x = answer d _ _ _ _ _ bytes r.read-a.ensures p w.ensures.0 w.ensures.1 in
+    let y = output d _ _ _ _ _ bytes r.read-a.ensures p w.ensures.0 w.ensures.1 in
+    (x, (y, again d _ _ _ _ _ bytes r.read-a.ensures p w.ensures.0 w.ensures.1))
