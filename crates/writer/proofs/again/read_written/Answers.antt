@@ -31,14 +31,14 @@ module _ (d out o s : List ℕ) (a : Read) (w : Written) (bytes : (i : ℕ) → 
 
 pub returns : goal.returns
 returns c =
-    let r = c in
-    let k = r in
-    let d = k.args.d.now in
+    let d = c.args.d.now in
     let w = c.write in
     let n = c.data_start-from in
-    let bytes : (i : ℕ) → byte d i < 256 = λ i. omega (arith, k.type_inv.d i) in
+    let bytes : (i : ℕ) → byte d i < 256 = λ i. omega (arith, c.type_inv.d i) in
     let p : take (length d - n.result) (drop n.result d) ≡ drop 28 d =
     take_all (length d - n.result) (drop n.result d) (le_of_eq (length-drop n.result d)) ∙ n.ensures.0 in
-    let x = answer d _ _ _ _ _ bytes r.read-a.ensures p w.ensures.0 w.ensures.1 in
-    let y = output d _ _ _ _ _ bytes r.read-a.ensures p w.ensures.0 w.ensures.1 in
-    (x, (y, again d _ _ _ _ _ bytes r.read-a.ensures p w.ensures.0 w.ensures.1))
+    record {
+      answer = answer d _ _ _ _ _ bytes c.read-a.ensures p w.ensures.answer w.ensures.output;
+      output = output d _ _ _ _ _ bytes c.read-a.ensures p w.ensures.answer w.ensures.output;
+      repeated = again d _ _ _ _ _ bytes c.read-a.ensures p w.ensures.answer w.ensures.output;
+    }

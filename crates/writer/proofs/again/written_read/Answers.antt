@@ -43,26 +43,18 @@ module _ (h : Header) (samples out o : List ℕ) (w : Written) (t : Typed h) (e 
       rw ((write_done_gives h samples out d).0, b.packet) b.fields)
       (λ s. rw (write_refused_length h samples out (λ d. eqb-false _ _ s (ap number_made d)))))
 
-typed : (c : goal.Start) → Typed c.args.h
-typed c = record { sixteen = search rules; counter = search rules }
-
--- the part that was written
-bound : (c : goal.After-slice_known-2-1) → c.write-w.result.length ≤ length c.write-w.new.1.1.0
-bound c =
-    let s = c in
-    let a = s.args in
-    let w = c.write-w in
-    within a.h a.samples.now a.out.now w.new.1.1.0 _ (typed s) w.ensures.0 w.auto.1.1.0
-
 pub slice_bounds-read-end : goal.slice_bounds-read-end
-slice_bounds-read-end = bound
+slice_bounds-read-end c =
+    let typed : Typed c.args.h = record { sixteen = search rules; counter = search rules } in
+    within c.args.h c.args.samples.now c.args.out.now c.write-w.new.out _ typed c.write-w.ensures.answer c.write-w.auto.out
 
 pub slice_bounds-read-end-2 : goal.slice_bounds-read-end-2
-slice_bounds-read-end-2 c = sym (length-take-le _ _ (bound c))
+slice_bounds-read-end-2 c =
+    let typed : Typed c.args.h = record { sixteen = search rules; counter = search rules } in
+    sym (length-take-le _ _ (within c.args.h c.args.samples.now c.args.out.now c.write-w.new.out _ typed c.write-w.ensures.answer c.write-w.auto.out))
 
 pub returns : goal.returns
 returns c =
-    let s = c in
-    let a = s.args in
-    let b = c.write-w in
-    (reads a.h a.samples.now a.out.now _ _ (typed s) b.ensures.0 _ b.ensures.1 c.read.ensures, b.ensures.1)
+    let typed : Typed c.args.h = record { sixteen = search rules; counter = search rules } in
+    let w = c.write-w in
+    record { answer = reads c.args.h c.args.samples.now c.args.out.now _ _ typed w.ensures.answer _ w.ensures.output c.read.ensures; output = w.ensures.output }

@@ -41,21 +41,18 @@ module _ (h : Header) (samples out : List ℕ) (a : Made) (n : ℕ) (q : n ≡ n
       let t = eq-eqb (number_made a) 0 (sym q ∙ z) in
       (rw (← e, t), rw (← e, t) p)
 
-sixteen : (c : goal.Start) → length c.args.h.name ≡ 16
-sixteen c = search rules
-
 pub returns-then-number_made-ne0 : goal.returns-then-number_made-ne0
-returns-then-number_made-ne0 c = refused _ _ _ _ _ c.number_made.ensures c.refusal-a.ensures c.if-number_made-ne0.true
+returns-then-number_made-ne0 c =
+    let r = refused c.args.h c.args.samples.now c.args.out.now _ _ c.number_made.ensures c.refusal-a.ensures c.if-number_made-ne0.true in
+    record { answer = r.0; output = r.1 }
 
 pub emit-requires : goal.emit-requires
-emit-requires c = let b = c in
-    let o = b in (
-      search rules,
-      allowed _ o.args.samples.now o.args.out.now _ _ b.number_made.ensures b.refusal-a.ensures (sixteen o)
-          c.if-number_made-ne0.false _ b.measure-named.ensures,
-    )
+emit-requires c =
+    let sixteen : length c.args.h.name ≡ 16 = search rules in
+    let r = allowed c.args.h c.args.samples.now c.args.out.now _ _ c.number_made.ensures c.refusal-a.ensures sixteen c.if-number_made-ne0.false _ c.measure-named.ensures in
+    record { name_value = search rules; named_value = r.0; good_form = r.1.0; samples_in_bounds = r.1.1 }
 
 pub returns : goal.returns
-returns c = let e = c in
-    let b = e in
-    written _ _ _ _ _ b.number-made.ensures b.before.refusal.ensures _ e.if-number_made-ne0.false e.emit.ensures
+returns c =
+    let r = written c.args.h c.args.samples.now c.args.out.now _ _ c.number_made.ensures c.refusal-a.ensures _ c.if-number_made-ne0.false c.emit.ensures in
+    record { answer = r.0; output = r.1 }
