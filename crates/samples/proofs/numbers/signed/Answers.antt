@@ -10,13 +10,11 @@ use lib.Signed.{non_neg}
 use mir.Syntax.{w32, w64}
 use mir.Val.{Fits, SFits, to_z}
 use mir.Facts.{to_z-of_z, to_z_pos}
-use borrow.Author.Rules.{rules}
 use Rattle.sample_rules.specs.Bits.{signed_of}
 use Rattle.formats.proofs.Machine.{Long, Int, back, wider}
 use Rattle.sample_rules.proofs.Places.{doubles, sub_mag, pos_minus}
 use Rattle.sample_rules.proofs.Bits.{signed_place}
-use Rattle.samples.proofs.numbers.signed.Statement.{statement}
-use Rattle.samples.proofs.numbers.signed.Tie as tie
+use Rattle.samples.proofs.numbers.signed.Goals as goal
 
 module _ (u w : ℕ) (h : (1 ≤ w) × (w ≤ 32) × (u < 2 ^ w)) (p : ℤ) (e : p ≡ pos (2 ^ (w - 1))) where
   abbrev H : ℕ
@@ -73,17 +71,5 @@ module _ (u w : ℕ) (h : (1 ≤ w) × (w ≤ 32) × (u < 2 ^ w)) (p : ℤ) (e :
   is_signed : Int (Long (to_z w64 ((u + nat_abs (Long p)) % (nat_abs (Long p) * 2)) -ℤ Long p)) ≡ signed_of w u
   is_signed = rw (less, to_z-of_z (wider fits_int), to_z-of_z fits_int) (signed_place w h.0 u h.2)
 
-pub signed_spec : {M : Type 1} → statement M
-signed_spec =
-    tie.close
-    (tie.spec
-    (λ c. search rules)
-    (λ c κs. search rules)
-    (λ c. whole_half _ _ c.before.requires _ c.power.ensures)
-    (λ c. fits_sum _ _ c.before.requires _ c.power.ensures)
-    (λ c. fits_all _ _ c.before.requires _ c.power.ensures)
-    (λ c. above _ _ c.before.requires _ c.power.ensures)
-    (λ c. fits_rest _ _ c.before.requires _ c.power.ensures)
-    (λ c. fits_less _ _ c.before.requires _ c.power.ensures)
-    (λ c. fits_back _ _ c.before.requires _ c.power.ensures)
-    (λ c. is_signed _ _ c.before.requires _ c.power.ensures))
+pub returns : goal.returns
+returns c = is_signed _ _ c.requires _ c.power-half.ensures

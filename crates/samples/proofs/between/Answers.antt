@@ -9,7 +9,6 @@ use lib.Signed.{mag}
 use mir.Syntax.{w32, w64}
 use mir.Val.{SFits, to_z}
 use mir.Facts.{to_z-of_z, to_z_pos}
-use borrow.Author.Rules.{rules}
 use Rattle.formats.specs.declared.Integer.{Integer}
 use Rattle.formats.specs.Formats.{width_of, middle_of, has}
 use Rattle.sample_rules.specs.Convert.{bias_of, rank, rank_of, rescaled, converted}
@@ -17,8 +16,7 @@ use Rattle.formats.proofs.Machine.{Long, Int, wider, wider_int}
 use Rattle.sample_rules.proofs.Places.{doubles, rank_sub, sub_mag}
 use Rattle.sample_rules.proofs.Formats.{width_le, width_ge, middle_is, rank_below, rank_back, centred, uncentred}
 use Rattle.sample_rules.proofs.Rescaled.{rescaled_lt}
-use Rattle.samples.proofs.between.Statement.{statement}
-use Rattle.samples.proofs.between.Tie as tie
+use Rattle.samples.proofs.between.Goals as goal
 
 abbrev half : Integer → ℕ
 half f = 2 ^ (width_of f - 1)
@@ -88,21 +86,7 @@ module _ (f : Integer) (n : ℤ) (m : ℕ) (s : SFits w64 n) (h : has f n ≡ tr
       result : Long (Long (Int r) +ℤ to_z w64 k) ≡ converted f t n
       result = rw is_there (to_z-of_z fits_there)
 
-pub between_spec : {M : Type 1} → statement M
-between_spec =
-    tie.close
-    (tie.spec
-    (λ c κs. search rules)
-    (λ c. search rules)
-    (λ c. search fits_less)
-    (λ c. search fits_cast)
-    (λ c κs. search rules)
-    (λ c κs. search rules)
-    (λ c κs.
-    let o = c.before.before.before in
-    room o.args.f _ _ o.ranges.n o.requires c.before.before.middle.ensures o.args.t _ _ c.before.width.ensures c.width2.ensures)
-    (λ c. wider_int {n = c.rescale.result} (record { sfits = c.rescale.type-inv }))
-    (λ c κs. search rules)
-    (λ c. search rules)
-    (λ c. search fits_sum)
-    (λ c. search result))
+pub returns : goal.returns
+returns c =
+    result c.args.f _ _ c.ranges.n c.requires c.middle.ensures c.args.t _ _ c.width.ensures c.width-2.ensures
+    _ _ c.rescale-x.type_inv c.middle-2.ensures c.rescale-x.ensures
