@@ -12,7 +12,7 @@ use mir.Facts.{to_z-of_z, to_z_pos}
 use Rattle.formats.specs.declared.Integer.{Integer}
 use Rattle.formats.specs.Formats.{width_of, middle_of, has}
 use Rattle.sample_rules.specs.Convert.{bias_of, rank, rank_of, rescaled, converted}
-use Rattle.formats.proofs.Machine.{Long, Int, wider, wider_int}
+use Rattle.formats.proofs.Machine.{Long, Int, wider}
 use Rattle.sample_rules.proofs.Places.{doubles, rank_sub, sub_mag}
 use Rattle.sample_rules.proofs.Formats.{width_le, width_ge, middle_is, rank_below, rank_back, centred, uncentred}
 use Rattle.sample_rules.proofs.Rescaled.{rescaled_lt}
@@ -43,25 +43,10 @@ module _ (f : Integer) (n : ℤ) (m : ℕ) (s : SFits w64 n) (h : has f n ≡ tr
       rw (to_z-of_z s, e, to_z_pos w64 {n = middle_of f} (omega (arith, middle_le f)))
       (ap (λ (z : ℤ). z -ℤ pos (middle_of f)) (sym (rank_back f n h)) ∙ centred f u)
 
-  fits_less : SFits w64 (Long n -ℤ to_z w64 m)
-  fits_less = rw less (wider (place_fits f u (rank_below f n h)))
-
-  fits_cast : SFits w32 (Long (Long n -ℤ to_z w64 m))
-  fits_cast = let p = place_fits f u (rank_below f n h) in rw (less, to_z-of_z (wider p)) p
-
   start : Int (Long (Long n -ℤ to_z w64 m)) ≡ sub_ℕ u (half f)
   start = let p = place_fits f u (rank_below f n h) in rw (less, to_z-of_z (wider p), to_z-of_z p)
 
   module _ (t : Integer) (w v : ℕ) (ew : w ≡ width_of f) (ev : v ≡ width_of t) where
-    room : (2 ≤ w) × (w ≤ 32) × (2 ≤ v) × (v ≤ 32) × (mag (Int (Long (Long n -ℤ to_z w64 m))) < 2 ^ (w - 1))
-    room = (
-      omega (arith, width_ge f),
-      omega (arith, width_le f),
-      omega (arith, width_ge t),
-      omega (arith, width_le t),
-      rw (start, ew) (place_mag f u (rank_below f n h)),
-    )
-
     module _ (r : ℤ) (k : ℕ) (fr : mag r < 2 ^ 31) (ek : k ≡ middle_of t)
         (er : r ≡ sub_ℕ (rescaled w v (rank (2 ^ (w - 1)) (Int (Long (Long n -ℤ to_z w64 m))))) (2 ^ (v - 1))) where
       sf : SFits w32 r
@@ -79,9 +64,6 @@ module _ (f : Integer) (n : ℤ) (m : ℕ) (s : SFits w64 n) (h : has f n ≡ tr
           let y = rescaled (width_of f) (width_of t) u in
           let l : y < 2 ^ width_of t = rescaled_lt (width_of f) (width_of t) u (rank_below f n h) in
           record { sfits = sub_mag y (bias_of t) (2 ^ 63) (omega (arith, pow_mono (width_le t))) (omega (arith, middle_is t, half_le t)) }
-
-      fits_sum : SFits w64 (Long (Int r) +ℤ to_z w64 k)
-      fits_sum = rw is_there fits_there
 
       result : Long (Long (Int r) +ℤ to_z w64 k) ≡ converted f t n
       result = rw is_there (to_z-of_z fits_there)

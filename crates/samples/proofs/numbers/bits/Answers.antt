@@ -1,18 +1,17 @@
 -- The number and 2 to the w is its place among those from there on, which is not negative.
 use mathlib.Core.Path.{◌≡◌}
 use Prim.Native.Nat.{ℕ, ◌-◌, ◌%◌, ◌^◌, ◌≤◌, ◌<◌}
-use native.Mathlib.Nat.{mod-lt}
 use native.Mathlib.Omega.{arith}
 use lib.Dec.{T}
 use lib.IntN.{ℤ, pos, nat_abs, ◌+ℤ◌}
-use lib.Pow.{pow_pos, pow_mono}
+use lib.Pow.{pow_mono}
 use lib.Signed.{mag, non_neg}
 use mir.Syntax.{w32, w64}
 use mir.Val.{Fits, SFits}
 use mir.Facts.{to_z-of_z}
 use Rattle.sample_rules.specs.Convert.{rank}
 use Rattle.sample_rules.specs.Bits.{bits_of}
-use Rattle.formats.proofs.Machine.{Long, Int, back, wider, wider_int}
+use Rattle.formats.proofs.Machine.{Long, Int, back, wider}
 use Rattle.sample_rules.proofs.Places.{placed, rank_lt}
 use Rattle.samples.proofs.numbers.bits.Goals as goal
 
@@ -29,9 +28,6 @@ module _ (n p : ℤ) (w : ℕ) (s : SFits w32 n) (h : (1 ≤ w) × (w ≤ 32) ×
   sum : Long (Int n) +ℤ Long p ≡ pos (rank (2 ^ w) n)
   sum = rw (to_z-of_z s, to_z-of_z (wider s), power) (placed (2 ^ w) n inside)
 
-  fits_sum : SFits w64 (Long (Int n) +ℤ Long p)
-  fits_sum = rw sum (record { sfits = omega (arith, rank_lt (2 ^ w) n inside, w_le) })
-
   total : Long (Long (Int n) +ℤ Long p) ≡ pos (rank (2 ^ w) n)
   total = rw sum (back (pos (rank (2 ^ w) n)) (omega (arith, rank_lt (2 ^ w) n inside, w_le)))
 
@@ -41,15 +37,6 @@ module _ (n p : ℤ) (w : ℕ) (s : SFits w32 n) (h : (1 ≤ w) × (w ≤ 32) ×
   module _ (q : ℤ) (f : q ≡ pos (2 ^ w)) where
     step : Long q ≡ pos (2 ^ w)
     step = rw (f, back (pos (2 ^ w)) (omega (arith, w_le)))
-
-    whole_step : T (non_neg (Long q)) × Fits w64 (nat_abs (Long q))
-    whole_step = rw step (tt, record { fits = omega (arith, w_le) })
-
-    above : 0 < nat_abs (Long q)
-    above = rw step (pow_pos w)
-
-    fits_rest : Fits w32 (nat_abs (Long (Long (Int n) +ℤ Long p)) % nat_abs (Long q))
-    fits_rest = rw (total, step) (record { fits = omega (arith, mod-lt (rank (2 ^ w) n) (pow_pos w), w_le) })
 
     rest : nat_abs (Long (Long (Int n) +ℤ Long p)) % nat_abs (Long q) ≡ bits_of w n
     unfolding bits_of

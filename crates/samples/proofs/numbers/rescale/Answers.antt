@@ -43,9 +43,6 @@ module _ (n : ℤ) (w v : ℕ) (s : SFits w32 n) (h : (2 ≤ w) × (w ≤ 32) ×
     widened r f e = to_z-of_z f ∙ e ∙ rw (to_z-of_z s, product, le-leb w v g)
 
   module _ (g : v < w) where
-    room_narrow : (1 ≤ w - v) × (2 ≤ v) × (v + (w - v) ≤ 32) × (mag (Int n) < 2 ^ (v + (w - v) - 1))
-    room_narrow = let e : v + (w - v) - 1 ≡ w - 1 = omega arith in (omega arith, omega arith, omega arith, rw (to_z-of_z s, e) h.4)
-
     is_narrowed : (r : ℤ) → SFits w32 r → r ≡ sub_ℕ (narrowed (w - v) v (rank (2 ^ (v + (w - v) - 1)) (Int n))) (2 ^ (v - 1)) → Int r ≡ sub_ℕ (rescaled w v u) (2 ^ (v - 1))
     unfolding rescaled
     is_narrowed r f e = let k : v + (w - v) - 1 ≡ w - 1 = omega arith in to_z-of_z f ∙ e ∙ rw (to_z-of_z s, k, lt-leb w v g)

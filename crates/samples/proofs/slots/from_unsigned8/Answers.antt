@@ -9,7 +9,7 @@ use mir.Val.{SFits, to_z}
 use mir.Facts.{to_z_pos}
 use Rattle.sample_rules.proofs.Places.{pos_minus, sub_mag}
 use Rattle.samples.proofs.Slotting.{byte_slot}
-use Rattle.samples.proofs.Moves.{bits8, bits24, room, room_bits, bits_there}
+use Rattle.samples.proofs.Moves.{bits8, bits24, room_bits, bits_there}
 use Rattle.samples.proofs.slots.from_unsigned8.Goals as goal
 
 module _ (u : ℕ) (h : u < 2 ^ 8) where
