@@ -47,6 +47,15 @@ module _ (f : Integer) (n : ℤ) (m : ℕ) (s : SFits w64 n) (h : has f n ≡ tr
   start = let p = place_fits f u (rank_below f n h) in rw (less, to_z-of_z (wider p), to_z-of_z p)
 
   module _ (t : Integer) (w v : ℕ) (ew : w ≡ width_of f) (ev : v ≡ width_of t) where
+    room : (2 ≤ w) × (w ≤ 32) × (2 ≤ v) × (v ≤ 32) × (mag (Int (Long (Long n -ℤ to_z w64 m))) < 2 ^ (w - 1))
+    room = (
+      omega (arith, width_ge f),
+      omega (arith, width_le f),
+      omega (arith, width_ge t),
+      omega (arith, width_le t),
+      rw (start, ew) (place_mag f u (rank_below f n h)),
+    )
+
     module _ (r : ℤ) (k : ℕ) (fr : mag r < 2 ^ 31) (ek : k ≡ middle_of t)
         (er : r ≡ sub_ℕ (rescaled w v (rank (2 ^ (w - 1)) (Int (Long (Long n -ℤ to_z w64 m))))) (2 ^ (v - 1))) where
       sf : SFits w32 r
@@ -67,6 +76,9 @@ module _ (f : Integer) (n : ℤ) (m : ℕ) (s : SFits w64 n) (h : has f n ≡ tr
 
       result : Long (Long (Int r) +ℤ to_z w64 k) ≡ converted f t n
       result = rw is_there (to_z-of_z fits_there)
+
+pub rescale-x-requires : goal.rescale-x-requires
+rescale-x-requires c = room c.args.f _ _ c.ranges.n c.requires c.middle.ensures c.args.t _ _ c.width.ensures c.width-2.ensures
 
 pub returns : goal.returns
 returns c =

@@ -28,6 +28,9 @@ module _ (n p : ℤ) (w : ℕ) (s : SFits w32 n) (h : (1 ≤ w) × (w ≤ 32) ×
   sum : Long (Int n) +ℤ Long p ≡ pos (rank (2 ^ w) n)
   sum = rw (to_z-of_z s, to_z-of_z (wider s), power) (placed (2 ^ w) n inside)
 
+  fits_sum : SFits w64 (Long (Int n) +ℤ Long p)
+  fits_sum = rw sum (record { sfits = omega (arith, rank_lt (2 ^ w) n inside, w_le) })
+
   total : Long (Long (Int n) +ℤ Long p) ≡ pos (rank (2 ^ w) n)
   total = rw sum (back (pos (rank (2 ^ w) n)) (omega (arith, rank_lt (2 ^ w) n inside, w_le)))
 
@@ -41,6 +44,9 @@ module _ (n p : ℤ) (w : ℕ) (s : SFits w32 n) (h : (1 ≤ w) × (w ≤ 32) ×
     rest : nat_abs (Long (Long (Int n) +ℤ Long p)) % nat_abs (Long q) ≡ bits_of w n
     unfolding bits_of
     rest = rw (total, step)
+
+pub overflow_add-m : goal.overflow_add-m
+overflow_add-m c = fits_sum _ _ _ c.ranges.n c.requires c.power.ensures
 
 pub overflow_cast-result : goal.overflow_cast-result
 overflow_cast-result c = whole_sum _ _ _ c.ranges.n c.requires c.power.ensures
