@@ -5,6 +5,7 @@ use native.Mathlib.Omega.{arith}
 use lib.Dec.{lit≤}
 use lib.IntN.{ℤ, sub_ℕ}
 use lib.Signed.{mag}
+use mir.Syntax.{w32}
 use mir.Facts.{to_z-of_z}
 use Rattle.sample_rules.specs.Convert.{rank, rescaled}
 use Rattle.sample_rules.specs.Bits.{bits_of}
@@ -22,7 +23,7 @@ abbrev pub bits32 : (2 ≤ 32) × (32 ≤ 32)
 bits32 = (lit≤ tt, lit≤ tt)
 
 int : (z : ℤ) → mag z < 2 ^ 31 → Int z ≡ z
-int z h = to_z-of_z (record { sfits = h })
+int z h = to_z-of_z {w = w32} (record { sfits = h })
 
 -- z of w bits to v bits
 module _ (w v : ℕ) (z : ℤ) (hw : (2 ≤ w) × (w ≤ 32)) (hv : (2 ≤ v) × (v ≤ 32)) (hz : mag z < 2 ^ (w - 1)) where

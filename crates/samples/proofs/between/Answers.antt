@@ -9,16 +9,14 @@ use lib.Signed.{mag}
 use mir.Syntax.{w32, w64}
 use mir.Val.{SFits, to_z}
 use mir.Facts.{to_z-of_z, to_z_pos}
-use borrow.Author.Rules.{rules}
 use Rattle.formats.specs.declared.Integer.{Integer}
 use Rattle.formats.specs.Formats.{width_of, middle_of, has}
 use Rattle.sample_rules.specs.Convert.{bias_of, rank, rank_of, rescaled, converted}
-use Rattle.formats.proofs.Machine.{Long, Int, wider, wider_int}
+use Rattle.formats.proofs.Machine.{Long, Int, wider}
 use Rattle.sample_rules.proofs.Places.{doubles, rank_sub, sub_mag}
 use Rattle.sample_rules.proofs.Formats.{width_le, width_ge, middle_is, rank_below, rank_back, centred, uncentred}
 use Rattle.sample_rules.proofs.Rescaled.{rescaled_lt}
-use Rattle.samples.proofs.between.Statement.{statement}
-use Rattle.samples.proofs.between.Tie as tie
+use Rattle.samples.proofs.between.Goals as goal
 
 abbrev half : Integer → ℕ
 half f = 2 ^ (width_of f - 1)
@@ -44,12 +42,6 @@ module _ (f : Integer) (n : ℤ) (m : ℕ) (s : SFits w64 n) (h : has f n ≡ tr
   less =
       rw (to_z-of_z s, e, to_z_pos w64 {n = middle_of f} (omega (arith, middle_le f)))
       (ap (λ (z : ℤ). z -ℤ pos (middle_of f)) (sym (rank_back f n h)) ∙ centred f u)
-
-  fits_less : SFits w64 (Long n -ℤ to_z w64 m)
-  fits_less = rw less (wider (place_fits f u (rank_below f n h)))
-
-  fits_cast : SFits w32 (Long (Long n -ℤ to_z w64 m))
-  fits_cast = let p = place_fits f u (rank_below f n h) in rw (less, to_z-of_z (wider p)) p
 
   start : Int (Long (Long n -ℤ to_z w64 m)) ≡ sub_ℕ u (half f)
   start = let p = place_fits f u (rank_below f n h) in rw (less, to_z-of_z (wider p), to_z-of_z p)
@@ -82,27 +74,13 @@ module _ (f : Integer) (n : ℤ) (m : ℕ) (s : SFits w64 n) (h : has f n ≡ tr
           let l : y < 2 ^ width_of t = rescaled_lt (width_of f) (width_of t) u (rank_below f n h) in
           record { sfits = sub_mag y (bias_of t) (2 ^ 63) (omega (arith, pow_mono (width_le t))) (omega (arith, middle_is t, half_le t)) }
 
-      fits_sum : SFits w64 (Long (Int r) +ℤ to_z w64 k)
-      fits_sum = rw is_there fits_there
-
       result : Long (Long (Int r) +ℤ to_z w64 k) ≡ converted f t n
       result = rw is_there (to_z-of_z fits_there)
 
-pub between_spec : {M : Type 1} → statement M
-between_spec =
-    tie.close
-    (tie.spec
-    (λ c κs. search rules)
-    (λ c. search rules)
-    (λ c. search fits_less)
-    (λ c. search fits_cast)
-    (λ c κs. search rules)
-    (λ c κs. search rules)
-    (λ c κs.
-    let o = c.before.before.before in
-    room o.args.f _ _ o.ranges.n o.requires c.before.before.middle.ensures o.args.t _ _ c.before.width.ensures c.width2.ensures)
-    (λ c. wider_int {n = c.rescale.result} (record { sfits = c.rescale.type-inv }))
-    (λ c κs. search rules)
-    (λ c. search rules)
-    (λ c. search fits_sum)
-    (λ c. search result))
+pub rescale-x-requires : goal.rescale-x-requires
+rescale-x-requires c = room c.args.f _ _ c.ranges.n c.requires c.middle.ensures c.args.t _ _ c.width.ensures c.width-2.ensures
+
+pub returns : goal.returns
+returns c =
+    result c.args.f _ _ c.ranges.n c.requires c.middle.ensures c.args.t _ _ c.width.ensures c.width-2.ensures
+    _ _ c.rescale-x.type_inv c.middle-2.ensures c.rescale-x.ensures

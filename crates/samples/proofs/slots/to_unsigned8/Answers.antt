@@ -8,7 +8,6 @@ use lib.Signed.{mag, non_neg}
 use mir.Syntax.{w32}
 use mir.Val.{Fits, SFits}
 use mir.Facts.{to_z-of_z}
-use borrow.Author.Rules.{rules}
 use Rattle.formats.specs.Formats.{unsigned8}
 use Rattle.sample_rules.specs.Convert.{rank, rescaled}
 use Rattle.sample_rules.specs.Bits.{signed_of, sent_of}
@@ -19,8 +18,7 @@ use Rattle.sample_rules.proofs.Bits.{signed_mag}
 use Rattle.samples.proofs.Slotting.{byte_sent}
 use Rattle.samples.proofs.Aligned.{aligned}
 use Rattle.samples.proofs.Moves.{bits8, bits32, there}
-use Rattle.samples.proofs.slots.to_unsigned8.Statement.{statement}
-use Rattle.samples.proofs.slots.to_unsigned8.Tie as tie
+use Rattle.samples.proofs.slots.to_unsigned8.Goals as goal
 
 module _ (s : ℕ) (h : s < 2 ^ 24) where
   abbrev z : ℤ
@@ -54,18 +52,19 @@ module _ (s : ℕ) (h : s < 2 ^ 24) where
     sent : (nat_abs (Int (Int r +ℤ pos 128)) ≡ sent_of unsigned8 s) × (nat_abs (Int (Int r +ℤ pos 128)) < 2 ^ 8)
     sent = rw number (aligned s 8 h (lit< tt) ∙ byte_sent s, below)
 
-start : (c : tie.After-rescale) → Int c.rescale.result ≡ sub_ℕ (y c.before.before.args.s c.before.before.requires) 128
-start c =
-    let o = c.before.before in
-    there 32 8 (z o.args.s o.requires) bits32 bits8 (small o.args.s o.requires) _ c.before.signed.type-inv c.before.signed.ensures _ c.rescale.type-inv c.rescale.ensures
+-- what `rescale` gave is the place y, less 128
+start : (s : ℕ) (h : s < 2 ^ 24) (x : ℤ) → mag x < 2 ^ 31 → x ≡ z s h
+    → (r : ℤ) → mag r < 2 ^ 31 → r ≡ sub_ℕ (rescaled 32 8 (rank (2 ^ 31) (Int x))) 128 → Int r ≡ sub_ℕ (y s h) 128
+start s h x mx ex r mr er = there 32 8 (z s h) bits32 bits8 (small s h) x mx ex r mr er
 
-pub to_unsigned8_spec : {M : Type 1} → statement M
-to_unsigned8_spec =
-    tie.close
-    (tie.spec
-    (λ c. search rules)
-    (λ c κs. search rules)
-    (λ c κs. search rules)
-    (λ c. fits _ c.before.before.requires c.rescale.result (start c))
-    (λ c. whole _ c.before.before.requires c.rescale.result (start c))
-    (λ c. sent _ c.before.before.requires c.rescale.result (start c)))
+pub overflow_add-result : goal.overflow_add-result
+overflow_add-result c =
+    fits _ c.requires c.rescale.result (start _ c.requires _ c.signed.type_inv c.signed.ensures _ c.rescale.type_inv c.rescale.ensures)
+
+pub overflow_cast-result : goal.overflow_cast-result
+overflow_cast-result c =
+    whole _ c.requires c.rescale.result (start _ c.requires _ c.signed.type_inv c.signed.ensures _ c.rescale.type_inv c.rescale.ensures)
+
+pub returns : goal.returns
+returns c =
+    sent _ c.requires c.rescale.result (start _ c.requires _ c.signed.type_inv c.signed.ensures _ c.rescale.type_inv c.rescale.ensures)

@@ -1,22 +1,19 @@
 -- The number and 2 to the w is its place among those from there on, which is not negative.
 use mathlib.Core.Path.{◌≡◌}
 use Prim.Native.Nat.{ℕ, ◌-◌, ◌%◌, ◌^◌, ◌≤◌, ◌<◌}
-use native.Mathlib.Nat.{mod-lt}
 use native.Mathlib.Omega.{arith}
 use lib.Dec.{T}
 use lib.IntN.{ℤ, pos, nat_abs, ◌+ℤ◌}
-use lib.Pow.{pow_pos, pow_mono}
+use lib.Pow.{pow_mono}
 use lib.Signed.{mag, non_neg}
 use mir.Syntax.{w32, w64}
 use mir.Val.{Fits, SFits}
 use mir.Facts.{to_z-of_z}
-use borrow.Author.Rules.{rules}
 use Rattle.sample_rules.specs.Convert.{rank}
 use Rattle.sample_rules.specs.Bits.{bits_of}
-use Rattle.formats.proofs.Machine.{Long, Int, back, wider, wider_int}
+use Rattle.formats.proofs.Machine.{Long, Int, back, wider}
 use Rattle.sample_rules.proofs.Places.{placed, rank_lt}
-use Rattle.samples.proofs.numbers.bits.Statement.{statement}
-use Rattle.samples.proofs.numbers.bits.Tie as tie
+use Rattle.samples.proofs.numbers.bits.Goals as goal
 
 module _ (n p : ℤ) (w : ℕ) (s : SFits w32 n) (h : (1 ≤ w) × (w ≤ 32) × (mag n < 2 ^ (w - 1))) (e : p ≡ pos (2 ^ w)) where
   w_le : 2 ^ w ≤ 2 ^ 32
@@ -44,29 +41,15 @@ module _ (n p : ℤ) (w : ℕ) (s : SFits w32 n) (h : (1 ≤ w) × (w ≤ 32) ×
     step : Long q ≡ pos (2 ^ w)
     step = rw (f, back (pos (2 ^ w)) (omega (arith, w_le)))
 
-    whole_step : T (non_neg (Long q)) × Fits w64 (nat_abs (Long q))
-    whole_step = rw step (tt, record { fits = omega (arith, w_le) })
-
-    above : 0 < nat_abs (Long q)
-    above = rw step (pow_pos w)
-
-    fits_rest : Fits w32 (nat_abs (Long (Long (Int n) +ℤ Long p)) % nat_abs (Long q))
-    fits_rest = rw (total, step) (record { fits = omega (arith, mod-lt (rank (2 ^ w) n) (pow_pos w), w_le) })
-
     rest : nat_abs (Long (Long (Int n) +ℤ Long p)) % nat_abs (Long q) ≡ bits_of w n
     unfolding bits_of
     rest = rw (total, step)
 
-pub bits_spec : {M : Type 1} → statement M
-bits_spec =
-    tie.close
-    (tie.spec
-    (λ c. search wider_int)
-    (λ c κs. search rules)
-    (λ c. fits_sum _ _ _ c.before.ranges.n c.before.requires c.power.ensures)
-    (λ c κs. search rules)
-    (λ c. whole_step _ _ _ c.before.before.ranges.n c.before.before.requires c.before.power.ensures _ c.power2.ensures)
-    (λ c. whole_sum _ _ _ c.before.before.ranges.n c.before.before.requires c.before.power.ensures)
-    (λ c. above _ _ _ c.before.before.ranges.n c.before.before.requires c.before.power.ensures _ c.power2.ensures)
-    (λ c. fits_rest _ _ _ c.before.before.ranges.n c.before.before.requires c.before.power.ensures _ c.power2.ensures)
-    (λ c. rest _ _ _ c.before.before.ranges.n c.before.before.requires c.before.power.ensures _ c.power2.ensures))
+pub overflow_add-m : goal.overflow_add-m
+overflow_add-m c = fits_sum _ _ _ c.ranges.n c.requires c.power.ensures
+
+pub overflow_cast-result : goal.overflow_cast-result
+overflow_cast-result c = whole_sum _ _ _ c.ranges.n c.requires c.power.ensures
+
+pub returns : goal.returns
+returns c = rest _ _ _ c.ranges.n c.requires c.power.ensures _ c.power-step.ensures

@@ -6,7 +6,6 @@ use native.Mathlib.Nat.{mul-le-mul_right, suc-mul, add-mul}
 use lib.IntN.{ℤ, pos, sub_ℕ, ◌*ℤ◌}
 use lib.Pow.{pow_pos, pow-add, pow_mono}
 use lib.Signed.{mag}
-use borrow.Author.Rules.{rules}
 use borrow.Author.Tests.{le-leb, lt-leb}
 use mir.Syntax.{w32}
 use mir.Val.{SFits}
@@ -15,8 +14,7 @@ use Rattle.sample_rules.specs.Convert.{rank, narrowed, rescaled}
 use Rattle.formats.proofs.Machine.{Int}
 use Rattle.sample_rules.proofs.Places.{sub_rank, rank_lt, sub_mag}
 use Rattle.sample_rules.proofs.Signed.{times}
-use Rattle.samples.proofs.numbers.rescale.Statement.{statement}
-use Rattle.samples.proofs.numbers.rescale.Tie as tie
+use Rattle.samples.proofs.numbers.rescale.Goals as goal
 
 module _ (n : ℤ) (w v : ℕ) (s : SFits w32 n) (h : (2 ≤ w) × (w ≤ 32) × (2 ≤ v) × (v ≤ 32) × (mag n < 2 ^ (w - 1))) where
   abbrev u : ℕ
@@ -45,21 +43,15 @@ module _ (n : ℤ) (w v : ℕ) (s : SFits w32 n) (h : (2 ≤ w) × (w ≤ 32) ×
     widened r f e = to_z-of_z f ∙ e ∙ rw (to_z-of_z s, product, le-leb w v g)
 
   module _ (g : v < w) where
-    room_narrow : (1 ≤ w - v) × (2 ≤ v) × (v + (w - v) ≤ 32) × (mag (Int n) < 2 ^ (v + (w - v) - 1))
-    room_narrow = let e : v + (w - v) - 1 ≡ w - 1 = omega arith in (omega arith, omega arith, omega arith, rw (to_z-of_z s, e) h.4)
-
     is_narrowed : (r : ℤ) → SFits w32 r → r ≡ sub_ℕ (narrowed (w - v) v (rank (2 ^ (v + (w - v) - 1)) (Int n))) (2 ^ (v - 1)) → Int r ≡ sub_ℕ (rescaled w v u) (2 ^ (v - 1))
     unfolding rescaled
     is_narrowed r f e = let k : v + (w - v) - 1 ≡ w - 1 = omega arith in to_z-of_z f ∙ e ∙ rw (to_z-of_z s, k, lt-leb w v g)
 
-pub rescale_spec : {M : Type 1} → statement M
-rescale_spec =
-    tie.close
-    (tie.spec
-    (λ c κs. room _ _ _ c.before.ranges.n c.before.requires c.if1.true)
-    (λ c. widened _ _ _ c.before.before.ranges.n c.before.before.requires c.before.if1.true _ (record { sfits = c.widen.type-inv }) c.widen.ensures)
-    (λ c. search rules)
-    (λ c κs. room_narrow _ _ _ c.before.ranges.n c.before.requires c.if1.false)
-    (λ c.
-    is_narrowed _ _ _ c.before.before.ranges.n c.before.before.requires c.before.if1.false _ (record { sfits = c.narrow.type-inv })
-    c.narrow.ensures))
+pub widen-requires : goal.widen-requires
+widen-requires c = room _ _ _ c.ranges.n c.requires c.if-w-v.true
+
+pub returns-then-w-v : goal.returns-then-w-v
+returns-then-w-v c = widened _ _ _ c.ranges.n c.requires c.if-w-v.true _ (record { sfits = c.widen.type_inv }) c.widen.ensures
+
+pub returns : goal.returns
+returns c = is_narrowed _ _ _ c.ranges.n c.requires c.if-w-v.false _ (record { sfits = c.narrow.type_inv }) c.narrow.ensures

@@ -7,11 +7,9 @@ use lib.Pow.{pow_pos, pow_mono}
 use mir.Syntax.{w32, w64}
 use mir.Val.{SFits}
 use mir.Facts.{to_z-of_z}
-use borrow.Author.Rules.{rules}
 use Rattle.formats.proofs.Machine.{Long, Int, back}
 use Rattle.sample_rules.proofs.Places.{doubles, sub_le, pos_minus}
-use Rattle.samples.proofs.numbers.last.Statement.{statement}
-use Rattle.samples.proofs.numbers.last.Tie as tie
+use Rattle.samples.proofs.numbers.last.Goals as goal
 
 module _ (w k : ℕ) (pre : (1 ≤ k) × (k < w) × (w ≤ 32)) (p : ℤ) (ep : p ≡ pos (2 ^ (w - 1))) (q : ℤ) (eq : q ≡ pos (2 ^ (k - 1))) where
   few : 2 ^ (w - 1) ≤ 2 ^ 31
@@ -24,9 +22,6 @@ module _ (w k : ℕ) (pre : (1 ≤ k) × (k < w) × (w ≤ 32)) (p : ℤ) (ep : 
   first =
       rw (ep, eq, back (pos (2 ^ (w - 1))) (omega (arith, few)), back (pos (2 ^ (k - 1))) (omega (arith, few, room)))
       (pos_minus (2 ^ (w - 1)) (2 ^ (k - 1)) ∙ sub_le (2 ^ (w - 1)) (2 ^ (k - 1)) (omega (arith, room)))
-
-  fits_first : SFits w64 (Long p -ℤ Long q)
-  fits_first = rw first (record { sfits = omega (arith, few) })
 
   second : Long (Long p -ℤ Long q) -ℤ pos 1 ≡ pos (2 ^ (w - 1) - 2 ^ (k - 1) - 1)
   second =
@@ -45,15 +40,5 @@ module _ (w k : ℕ) (pre : (1 ≤ k) × (k < w) × (w ≤ 32)) (p : ℤ) (ep : 
   is_last : Int (Long (Long (Long p -ℤ Long q) -ℤ pos 1)) ≡ pos (2 ^ (w - 1) - 2 ^ (k - 1) - 1)
   is_last = to_z-of_z fits_int ∙ total
 
-pub last_spec : {M : Type 1} → statement M
-last_spec =
-    tie.close
-    (tie.spec
-    (λ c. search rules)
-    (λ c κs. search rules)
-    (λ c. search rules)
-    (λ c κs. search rules)
-    (λ c. search fits_first)
-    (λ c. search fits_second)
-    (λ c. search fits_int)
-    (λ c. search is_last))
+pub returns : goal.returns
+returns c = is_last _ _ c.requires _ c.power.ensures _ c.power-2.ensures

@@ -1,0 +1,8 @@
+-- What `moved` gives is the definition's, at these widths.
+use Rattle.sample_rules.specs.Convert.{converted}
+use Rattle.sample_rules.specs.Bits.{slot_of}
+use Rattle.samples.proofs.slots.from_signed32.Goals as goal
+
+pub returns : goal.returns
+unfolding slot_of converted
+returns c = c.moved.ensures
