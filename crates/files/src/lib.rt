@@ -121,11 +121,11 @@ pub fn append<R: Files + Eprint>(rt: &R, file: &mut R::File, path: &[u8], bytes:
     }
 }
 
-// The end of that file. What a system writes late can fail here.
+// The end of that file. What a system writes late can fail here, which is then said. It is waited for, since closing tells no failure.
 pub fn finish<R: Files + Eprint>(rt: &R, file: R::File, path: &[u8]) {
     match file.sync_all() {
         Ok(()) => {}
-        // What is no regular file may have nothing to write late.
+        // A pipe or a device has nothing that is written late.
         Err(error) if error.kind() == ErrorKind::InvalidInput => {}
         Err(error) => fail(rt, path, error),
     }
