@@ -15,7 +15,7 @@ fn number(n: u64, out: &mut [u8], at: usize) -> usize
     let mut text = [0u8; 20];
     let k = io::decimal(n, &mut text);
     let e = at + k;
-    bytes::copy(&text[..k], &mut out[at..e]);
+    out[at..e].copy_from_slice(&text[..k]);
     e
 }
 

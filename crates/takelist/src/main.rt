@@ -19,18 +19,24 @@ struct Going {
 }
 
 // One block: as many records as came, and their lines.
-fn follow_some(take: Take, counts: [u32; 17], index: u64, track: &mut [u8]) -> Going
+fn follow_some(
+    rt: &HostRuntime,
+    take: Take,
+    counts: [u32; 17],
+    index: u64,
+    track: &mut [u8],
+) -> Going
     requires { index < 2 ^ 63 }
     ensures { (result.length ≤ 64768) × (result.index ≡ index + result.length / record_size) }
 {
     let mut block = [0u8; 64768];
     let mut lines = [0u8; 4620];
-    let n = files::input(&mut block);
+    let n = files::input(rt, &mut block);
     let kept = block::follow(take, counts, index, &block[..n], &mut lines, track);
     let length = kept.length;
-    files::print(&lines[..length]);
+    files::print(rt, &lines[..length]);
     if n % RECORD != 0 {
-        files::print(b"cut\n");
+        files::print(rt, b"cut\n");
     }
     let take = kept.take;
     let counts = kept.counts;
@@ -43,12 +49,12 @@ fn follow_some(take: Take, counts: [u32; 17], index: u64, track: &mut [u8]) -> G
 }
 
 // The whole capture. No capture has 2^63 records, but a proved loop has to end.
-fn follow_all(take: Take, counts: [u32; 17], track: &mut [u8]) {
+fn follow_all(rt: &HostRuntime, take: Take, counts: [u32; 17], track: &mut [u8]) {
     let mut take = take;
     let mut counts = counts;
     let mut index = 0u64;
     while index < 9223372036854775808 {
-        let going = follow_some(take, counts, index, track);
+        let going = follow_some(rt, take, counts, index, track);
         if going.length < 64768 {
             return;
         }
@@ -58,34 +64,33 @@ fn follow_all(take: Take, counts: [u32; 17], track: &mut [u8]) {
     }
 }
 
-fn write_track(track: &[u8]) {
+fn write_track(rt: &HostRuntime, track: &[u8]) {
     let path = b"track.bin";
-    let file = files::begin(path);
-    if file < 0 {
+    let Some(mut file) = files::begin(rt, path) else {
         return;
-    }
-    files::append(file, path, track);
-    files::finish(file, path);
+    };
+    files::append(rt, &mut file, path, track);
+    files::finish(rt, file, path);
 }
 
-fn main() {
+fn main(rt: HostRuntime) {
     let mut wanted = [0u8; 21];
-    let n = files::load(b"wanted.bin", &mut wanted);
+    let n = files::load(&rt, b"wanted.bin", &mut wanted);
     if n != 20 {
-        files::print(b"no stream\n");
+        files::print(&rt, b"no stream\n");
         return;
     }
     let mut track = [0u8; 49152];
     let opened = capture::jobs::open(&wanted[..n], &mut track);
     let answer = opened.answer;
     if answers::number(answer) != 0 {
-        files::print(b"no stream\n");
+        files::print(&rt, b"no stream\n");
         return;
     }
     let take = opened.take;
     let tally = recorder::tally();
     let counts = tally.counts;
-    follow_all(take, counts, &mut track);
-    files::is_input_broken();
-    write_track(&track);
+    follow_all(&rt, take, counts, &mut track);
+    files::is_input_broken(&rt);
+    write_track(&rt, &track);
 }

@@ -1,13 +1,8 @@
 -- Five fields, one after the other, are the line.
-use mathlib.Core.List.{List, ◌++◌, append_assoc}
-use Prim.Native.Nat.{ℕ, ◌+◌, ◌≤◌}
-use native.Mathlib.Omega.{arith}
-use lib.ListN.{length}
-use borrow.Author.Rules.{rules}
+use Rattle.std.proofs.Common.{ℕ, ◌+◌, ◌≤◌, List, ◌++◌, length, append_assoc, arith}
 use Rattle.lines.specs.Lines.{line_of, line_room}
 use Rattle.lines.proofs.Lines.{Wrote, joined}
-use Rattle.lines.proofs.line.Statement.{statement}
-use Rattle.lines.proofs.line.Tie as tie
+use Rattle.lines.proofs.line.Goals as goal
 
 five : (s₁ s₂ s₃ s₄ s₅ d o₁ o₂ o₃ o₄ o₅ : List ℕ) (at e₁ e₂ e₃ e₄ e₅ : ℕ) → at + line_room ≤ length d
     → Wrote d at s₁ 21 o₁ e₁ → Wrote o₁ e₁ s₂ 21 o₂ e₂ → Wrote o₂ e₂ s₃ 21 o₃ e₃ → Wrote o₃ e₃ s₄ 21 o₄ e₄ → Wrote o₄ e₄ s₅ 21 o₅ e₅
@@ -19,26 +14,38 @@ five s₁ s₂ s₃ s₄ s₅ d o₁ o₂ o₃ o₄ o₅ at e₁ e₂ e₃ e₄ 
     let w₁₄ = joined d _ o₃ _ o₄ at _ e₃ _ e₄ h w₁₃ w₄ in
     simp append_assoc at (joined d _ o₄ _ o₅ at _ e₄ _ e₅ h w₁₄ w₅)
 
--- what each call left, the last first
-returns : tie.Need-returns
+-- what each call left, in their order
+pub returns : goal.returns
 unfolding line_of
 returns c =
-    let c₅ = c.before.before in
-    let c₄ = c₅.before.before.before.before in
-    let c₃ = c₄.before.before.before.before in
-    let c₂ = c₃.before.before.before.before in
-    let c₁ = c₂.before.before.before.before in
-    let asked = c₁.before.before.before.requires in
-    five _ _ _ _ _ _ _ _ _ _ _ _ _ _ _ _ _ asked c₁.field.ensures c₂.field2.ensures c₃.field3.ensures c₄.field4.ensures c₅.field5.ensures
-
-pub line_spec : {M : Type 1} → statement M
-line_spec =
-    tie.close
-    (tie.spec
-    (λ c κs. search rules)
-    (λ c κs. search rules)
-    (λ c κs. search rules)
-    (λ c κs. search rules)
-    (λ c κs. search rules)
-    (λ c. search rules)
-    returns)
+    let e₁ = c.field-a.ensures in
+    let e₂ = c.field-b.ensures in
+    let e₃ = c.field-c.ensures in
+    let e₄ = c.field-d.ensures in
+    let e₅ = c.field.ensures in
+    let w =
+    five
+    _
+    _
+    _
+    _
+    _
+    _
+    _
+    _
+    _
+    _
+    _
+    _
+    _
+    _
+    _
+    _
+    _
+    c.requires
+    (e₁.text, (e₁.end, e₁.within))
+    (e₂.text, (e₂.end, e₂.within))
+    (e₃.text, (e₃.end, e₃.within))
+    (e₄.text, (e₄.end, e₄.within))
+    (e₅.text, (e₅.end, e₅.within)) in
+    record { text = w.0; end = w.1.0; within = w.1.1 }
