@@ -54,7 +54,7 @@ loop-k-preserved c =
     let p = c.args.place in let at : let k = c.loop-k.k in (p * 2 + k) * 12 ≡ p * 24 + k * 12 = omega arith in
     let y = c in
     let i = y in
-    next 12 _ _ _ _ _ _ i.before.loop.invariant _ _ i.loop-test.true (at) y.half.ensures
+    next 12 _ _ _ _ _ _ i.loop-k.invariant _ _ i.loop-k-test.true (at) y.half.ensures
 
 pub returns : goal.returns
 unfolding laid_of

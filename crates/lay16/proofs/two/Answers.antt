@@ -39,9 +39,6 @@ module _ (d : List ℕ) (below : (i : ℕ) → byte d i < 256) (from : ℕ) (tra
       ∙ ap (put out ((place + 1) * 24))
       (two_channels d from 1 r2 r3 (in_word d from below 4 0 2 w r2 2 f refl e2) (in_word d from below 4 2 0 w r3 3 f refl e3)))
 
-abbrev given : goal.After-get4-v → goal.Start
-given g = g.before.before.before
-
 pub get4-v-requires : goal.get4-v-requires
 get4-v-requires c = omega arith
 
@@ -57,13 +54,13 @@ small-requires-then-channels-eq1 c = (omega arith, search rules, search rules)
 pub returns-then-channels-eq1 : goal.returns-then-channels-eq1
 returns-then-channels-eq1 c = let y = c in
     let x = y in
-    let t = x.before.before.before in
-    let g = t.before in
-    let a = (given g).args in
+    let t = x in
+    let g = t in
+    let a = g.args in
     let z : a.channels ≡ 1 = omega arith in
     rw z
-    (ones a.d.now (λ i. (g.before.before.shared-slice-known.given i).fits) a.from a.track.now a.place (omega arith) _
-    (rw (add-zero a.from) g.get4.ensures) _ _ x.before.part.ensures.0 y.part-then-channels-eq1.ensures.0 _ _ x.small.ensures y.small-then-channels-eq1.ensures)
+    (ones a.d.now (λ i. (g.type_inv.d i).fits) a.from a.track.now a.place (omega arith) _
+    (rw (add-zero a.from) g.get4-v.ensures) _ _ x.part.ensures.0 y.part-then-channels-eq1.ensures.0 _ _ x.small.ensures y.small-then-channels-eq1.ensures)
 
 pub overflow_add-from : goal.overflow_add-from
 overflow_add-from c = omega arith
@@ -83,11 +80,11 @@ small-requires-3 c = (omega arith, search rules, search rules)
 pub returns : goal.returns
 returns c = let y = c in
     let x = y in
-    let w = x.before.before.before.before in
-    let g = w.before.before in
-    let a = (given g).args in
+    let w = x in
+    let g = w in
+    let a = g.args in
     let z : a.channels ≡ 2 = omega arith in
     rw z
-    (pairs a.d.now (λ i. (g.before.before.shared-slice-known.given i).fits) a.from a.track.now a.place (omega arith) _
-    (rw (add-zero a.from) g.get4.ensures) _ _ x.before.before.part3.ensures.0 x.before.part4.ensures.0 _ _ _ _ _
-    w.get42.ensures y.part-4.ensures.0 y.part-5.ensures.0 x.small3.ensures y.small-3.ensures)
+    (pairs a.d.now (λ i. (g.type_inv.d i).fits) a.from a.track.now a.place (omega arith) _
+    (rw (add-zero a.from) g.get4-v.ensures) _ _ x.part-2.ensures.0 x.part-3.ensures.0 _ _ _ _ _
+    w.get4-w.ensures y.part-4.ensures.0 y.part-5.ensures.0 x.small-2.ensures y.small-3.ensures)

@@ -39,7 +39,7 @@ loop-k-preserved c =
     let before_end : c.at_most-from.result ≡ c.loop-k.from + 384 = omega (arith, c.at_most-from.ensures) in
     let y = c in
     let i = y in
-    rw (before_end) (walk_next 16 _ _ 384 _ _ _ _ _ _ _ i.before.loop.invariant _ i.loop-test.true y.sixteen_frames.ensures)
+    rw (before_end) (walk_next 16 _ _ 384 _ _ _ _ _ _ _ i.loop-k.invariant _ i.loop-k-test.true y.sixteen_frames.ensures)
 
 pub some-requires : goal.some-requires
 some-requires c = (search rules, omega arith, omega arith)

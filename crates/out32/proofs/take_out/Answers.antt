@@ -12,8 +12,7 @@ use Rattle.formats.specs.Formats.{signed32}
 use Rattle.track_rules.specs.Records.{taken_of}
 use Rattle.records.specs.Frames.{frames_out}
 use Rattle.out32.proofs.PairLaws.{side_by_side}
-use Rattle.out32.proofs.take_out.Statement.{statement}
-use Rattle.out32.proofs.take_out.Tie as tie
+use Rattle.out32.proofs.take_out.Goals as goal
 
 -- two channels are a pair a record, and eight are four pairs
 module _ (t : List ℕ) (first frames channels : ℕ) (out₀ out : List ℕ) (at : ℕ) where
@@ -25,29 +24,26 @@ module _ (t : List ℕ) (first frames channels : ℕ) (out₀ out : List ℕ) (a
       → out ≡ put out₀ at (taken_of signed32 t first frames channels)
   eight_channels e p = p ∙ rw (e, side_by_side signed32 t (first * 24) frames, taken_frames signed32 t first frames 8)
 
-eight_asked : tie.Need-pairs-requires-2
-eight_asked c κs =
-    let a = c.before.before.before.before.before.before.args in
-    let room : a.at + a.frames * (8 * 4) ≤ length a.out.now = search room_for in
-    ((omega arith, omega arith), (omega arith, omega arith, omega arith))
+pub returns-then-frames-eq0 : goal.returns-then-frames-eq0
+returns-then-frames-eq0 c = search none
 
-pub take_out_spec : {M : Type 1} → statement M
-take_out_spec =
-    tie.close
-    (tie.spec
-    (λ c. search none)
-    (λ c. search rules)
-    (λ c κs. ((omega arith, omega arith), (omega arith, omega arith, search room_for)))
-    (λ c. search rules)
-    (λ c. search two_channels)
-    (λ c. search rules)
-    (λ c. search rules)
-    eight_asked
-    (λ c. search rules)
-    (λ c. search eight_channels)
-    (λ c κs. (search rules, search rules, search room_for))
-    (λ c. search rules)
-    (λ c. search taken_count)
-    (λ c κs. search rules)
-    (λ c. search rules)
-    (λ c. search rules))
+pub pairs-requires : goal.pairs-requires
+pairs-requires c = record { le_count = (omega arith, omega arith); le_step = (omega arith, omega arith, search room_for) }
+
+pub returns-then-channels-eq2 : goal.returns-then-channels-eq2
+returns-then-channels-eq2 c = search two_channels
+
+pub pairs-requires-then-channels-eq8 : goal.pairs-requires-then-channels-eq8
+pairs-requires-then-channels-eq8 c =
+    let a = c.args in
+    let room : a.at + a.frames * (8 * 4) ≤ length a.out.now = search room_for in
+    record { le_count = (omega arith, omega arith); le_step = (omega arith, omega arith, omega arith) }
+
+pub returns-then-channels-eq8 : goal.returns-then-channels-eq8
+returns-then-channels-eq8 c = search eight_channels
+
+pub some-requires : goal.some-requires
+some-requires c = (search rules, search rules, search room_for)
+
+pub returns-then-channels-eq1 : goal.returns-then-channels-eq1
+returns-then-channels-eq1 c = search taken_count

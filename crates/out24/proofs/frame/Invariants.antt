@@ -1,0 +1,15 @@
+-- A sample a turn, each in the part of the frame that it is lent.
+use Prim.Native.Nat.{◌-◌}
+use native.Mathlib.Omega.{arith}
+use borrow.Author.Rules.{rules}
+use Rattle.formats.specs.Formats.{signed24}
+use Rattle.lists.proofs.Loops.{Pieces}
+use Rattle.records.specs.Frames.{sent_bytes}
+use Rattle.records.proofs.Taking.{frame_start, frame_next, frame_end}
+use Rattle.out24.proofs.frame.Given as goal
+
+abbrev pub invariant-loop-c : goal.invariant-loop-c
+invariant-loop-c l = Pieces 3 (sent_bytes signed24 l.track l.at) l.channels l.initial.out 0 l.out l.c
+
+abbrev pub decreases-loop-c : goal.decreases-loop-c
+decreases-loop-c l = l.channels - l.c

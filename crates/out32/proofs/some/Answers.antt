@@ -1,0 +1,31 @@
+-- A frame a turn, each in the part of the data that it is lent.
+use Prim.Native.Nat.{◌+◌, ◌*◌, ◌-◌, ◌≤◌}
+use native.Mathlib.Omega.{arith}
+use lib.ListN.{length}
+use borrow.Author.Rules.{rules}
+use Rattle.formats.specs.Formats.{signed32}
+use Rattle.lists.proofs.Loops.{walk_there, walk_next}
+use Rattle.records.proofs.Taking.{Taking, take_start, taken}
+use Rattle.out32.proofs.some.Goals as goal
+
+pub loop-k-init : goal.loop-k-init
+loop-k-init c = search take_start
+
+pub overflow_add-e : goal.overflow_add-e
+overflow_add-e c =
+    let has : c.loop-k.a + c.args.channels * 4 ≤ length c.loop-k.out = search walk_there in
+    omega (arith, has)
+
+pub slice_bounds-frame-end : goal.slice_bounds-frame-end
+slice_bounds-frame-end c =
+    let has : c.loop-k.a + c.args.channels * 4 ≤ length c.loop-k.out = search walk_there in
+    omega (arith, has)
+
+pub frame-requires : goal.frame-requires
+frame-requires c = (search rules, omega arith, omega (arith, c.frame-arg-1.given.2))
+
+pub loop-k-preserved : goal.loop-k-preserved
+loop-k-preserved c = search walk_next
+
+pub returns : goal.returns
+returns c = search taken

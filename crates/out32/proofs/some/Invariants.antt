@@ -1,0 +1,15 @@
+-- A frame a turn, each in the part of the data that it is lent.
+use Prim.Native.Nat.{◌+◌, ◌*◌, ◌-◌, ◌≤◌}
+use native.Mathlib.Omega.{arith}
+use lib.ListN.{length}
+use borrow.Author.Rules.{rules}
+use Rattle.formats.specs.Formats.{signed32}
+use Rattle.lists.proofs.Loops.{walk_there, walk_next}
+use Rattle.records.proofs.Taking.{Taking, take_start, taken}
+use Rattle.out32.proofs.some.Given as goal
+
+abbrev pub invariant-loop-k : goal.invariant-loop-k
+invariant-loop-k l = Taking signed32 l.channels l.track (l.first * 24) 24 l.frames l.initial.out l.at l.out l.k l.from l.a
+
+abbrev pub decreases-loop-k : goal.decreases-loop-k
+decreases-loop-k l = l.frames - l.k
