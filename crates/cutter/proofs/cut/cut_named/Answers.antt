@@ -17,8 +17,7 @@ use Rattle.cutter_rules.specs.Cut.{cut_schedule, packet_header, taken_by, packet
 use Rattle.cutter_rules.proofs.Scheduling.{divided, within_track}
 use Rattle.cutter_rules.proofs.Sizes.{packet_formed}
 use Rattle.cutter_rules.proofs.Exactly.{count_few, cut_done_exactly, done_gives, done_output, refused_gives, refused_output}
-use Rattle.cutter.proofs.cut.cut_named.Statement.{statement}
-use Rattle.cutter.proofs.cut.cut_named.Tie as tie
+use Rattle.cutter.proofs.cut.cut_named.Goals as goal
 
 -- a packet's name is the header's
 packet_named : (h : Header) (k frames : ℕ) (hk : Header) → hk ≡ packet_header h (schedule_of frames h.frames) k
@@ -74,51 +73,38 @@ module _ (h : Header) (track : List ℕ) (k : ℕ) (out : List ℕ) (a : Made) (
         w ∙ rw (is_packet, f) (sym (done_output h track k out a e done)),
       )
 
-sixteen : (c : tie.Start) → length c.args.h.name ≡ 16
-sixteen c = search rules
-
-small : (c : tie.Start) → length c.args.out.now < 2 ^ 64
-small c = omega arith
-
-abbrev start : tie.After-emit-arg → tie.Start
-start c = c.before.before.before.before.before.before.before.before.before.before.before
-
 -- what passed the checks can be written
-in_room : (c : tie.After-emit-arg)
-    → let hk = c.before.before.packet-header.result in
-    let a = (start c).args in
-    (hk.channels ≤ 8) × (c.before.from.result + hk.frames ≤ records_held a.track.now) × (header_size + data_size hk ≤ length a.out.now)
+in_room : (c : goal.After-emit-arg-1)
+    → let hk = c.packet_header-hk.result in
+    let a = c.args in
+    (hk.channels ≤ 8) × (c.from-from.result + hk.frames ≤ records_held a.track.now) × (header_size + data_size hk ≤ length a.out.now)
 in_room c =
-    let b = c.before.before.before.before in
-    let a = (start c).args in
-    in_range a.h a.track.now a.k a.out.now _ _ b.before.before.refusal.ensures b.before.number-made.ensures
-    b.if1.false _ c.before.before.before.held.ensures _ c.before.before.packet-header.ensures _ c.before.from.ensures (sixteen (start c))
+    let b = c in
+    let a = c.args in
+    in_range a.h a.track.now a.k a.out.now _ _ b.refusal-a.ensures b.number_made.ensures
+    b.if-number_made-ne0.false _ c.held.ensures _ c.packet_header-hk.ensures _ c.from-from.ensures (sixteen (start c))
 
-asks : tie.Need-emit-requires
-asks c κs =
-    let l = sixteen (start c) in
-    (search packet_named, (search name_measured, (search good_form, in_room c)))
+pub refusal-a-requires : goal.refusal-a-requires
+refusal-a-requires c = c.measure-named.ensures ∙ ap measured c.requires
 
-pub cut_named_spec : {M : Type 1} → statement M
-cut_named_spec =
-    tie.close
-    (tie.spec
-    (λ c κs. search rules)
-    (λ c κs. c.measure.ensures ∙ ap measured c.before.before.before.before.requires)
-    (λ c κs. search rules)
-    (λ c. refused _ _ _ _ _ _ c.before.before.refusal.ensures c.before.number-made.ensures c.if1.true)
-    (λ c κs. search rules)
-    (λ c κs. search rules)
-    (λ c κs. search rules)
-    asks
-    (λ c κs. search rules)
-    (λ c.
-    let e = c.before.before.before.before in
-    omega (arith, (in_room e).2, c.data-size.ensures, small (start e)))
-    (λ c. search rules)
-    (λ c.
-    let e = c.before.before.before.before in
-    let b = e.before.before.before.before in
-    written _ _ _ _ _ _ b.before.before.refusal.ensures b.before.number-made.ensures b.if1.false _
-    e.before.before.before.held.ensures _ e.before.before.packet-header.ensures _ e.before.from.ensures _ _
-    c.data-size.ensures c.before.before.before.emit.ensures))
+pub returns-then-number_made-ne0 : goal.returns-then-number_made-ne0
+returns-then-number_made-ne0 c = let whole = refused _ _ _ _ _ _ c.refusal-a.ensures c.number_made.ensures c.if-number_made-ne0.true in record { answer = whole.0; output = whole.1 }
+
+pub emit-requires : goal.emit-requires
+emit-requires c =
+    let sixteen : length c.args.h.name ≡ 16 = search rules in
+    let l = sixteen in
+record { name_value = search packet_named; named_value = search name_measured; good_form = search good_form; channels_bound = in_room c }
+
+pub overflow_add-result : goal.overflow_add-result
+overflow_add-result c =
+    let small : length c.args.out.now < 2 ^ 64 = omega arith in
+    let e = c in
+    omega (arith, (in_room e).2, c.data_size.ensures, small)
+
+pub returns : goal.returns
+returns c = let e = c in
+    let b = e in
+let whole = written _ _ _ _ _ _ b.refusal-a.ensures b.number_made.ensures b.if-number_made-ne0.false _
+    e.held.ensures _ e.packet_header-hk.ensures _ e.from-from.ensures _ _
+    c.data_size.ensures c.emit.ensures in record { answer = whole.0; output = whole.1 }

@@ -9,8 +9,7 @@ use Rattle.wire_rules.specs.declared.Header.{Header}
 use Rattle.wire_rules.specs.Header.{header_size, data_size}
 use Rattle.track_rules.specs.Records.{taken_of}
 use Rattle.cutter_rules.specs.Cut.{taken_by}
-use Rattle.cutter.proofs.cut.take_samples.Statement.{statement}
-use Rattle.cutter.proofs.cut.take_samples.Tie as tie
+use Rattle.cutter.proofs.cut.take_samples.Goals as goal
 
 known : (t : ℕ) (f : Format) → f ≡ format_of t → MaySend t → f ≡ Other → ⊥
 known t f e s o = read_known t (sent_read t s) (sym e ∙ o)
@@ -23,13 +22,8 @@ module _ (h : Header) (f : Format) (e : f ≡ format_of h.format) where
       → o ≡ put out header_size (taken_by h track from)
   by_format track out from o p = p ∙ rw e
 
-pub take_samples_spec : {M : Type 1} → statement M
-take_samples_spec =
-    tie.close
-    (tie.spec
-    (λ c κs. search rules)
-    (λ c. search rules)
-    (λ c. search rules)
-    (λ c κs. (known _ _ c.before.before.before.of-index.ensures c.before.before.before.before.before.before.requires.0, (search rules, omega arith, search format_room)))
-    (λ c. search rules)
-    (λ c. search by_format))
+pub take_out-requires : goal.take_out-requires
+take_out-requires c = record { fact = known _ _ c.of_index.ensures c.requires.may_send; channels_bound = (search rules, omega arith, search format_room) }
+
+pub returns : goal.returns
+returns c = search by_format

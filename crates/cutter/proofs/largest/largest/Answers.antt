@@ -5,8 +5,7 @@ use Rattle.lists.specs.Tables.{outside}
 use Rattle.answers.specs.declared.Made.TheVariants.{Done, Form}
 use Rattle.formats.specs.Formats.{may_send}
 use Rattle.cutter_rules.specs.Largest.{largest_frames, largest_of}
-use Rattle.cutter.proofs.largest.largest.Statement.{statement}
-use Rattle.cutter.proofs.largest.largest.Tie as tie
+use Rattle.cutter.proofs.largest.largest.Goals as goal
 
 module _ (format channels : ℕ) (sent : Bool) (e : sent ≡ may_send format) where
   unsendable : not sent ≡ true → record { answer = Form; frames = 0 } ≡ largest_of format channels
@@ -22,13 +21,11 @@ module _ (format channels : ℕ) (sent : Bool) (e : sent ≡ may_send format) wh
     unfolding largest_of
     allowed n t q = rw (sym e ∙ not-false sent h, sym p ∙ t, q)
 
-pub largest_spec : {M : Type 1} → statement M
-largest_spec =
-    tie.close
-    (tie.spec
-    (λ c κs. search rules)
-    (λ c. search unsendable)
-    (λ c κs. search rules)
-    (λ c. search too_many)
-    (λ c κs. search rules)
-    (λ c. search allowed))
+pub returns-then-not-may_send : goal.returns-then-not-may_send
+returns-then-not-may_send c = search unsendable
+
+pub returns-then-is_outside : goal.returns-then-is_outside
+returns-then-is_outside c = search too_many
+
+pub returns : goal.returns
+returns c = search allowed

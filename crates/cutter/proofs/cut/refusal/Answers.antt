@@ -13,8 +13,7 @@ use Rattle.cutter_rules.specs.Cut.{cut_schedule, packet_header, bad_cut, bad_num
 use Rattle.cutter_rules.proofs.Scheduling.{divided}
 use Rattle.cutter_rules.proofs.Sizes.{never_big, packet_formed}
 use Rattle.cutter_rules.proofs.Exactly.{cut_by, number_by, count_few}
-use Rattle.cutter.proofs.cut.refusal.Statement.{statement}
-use Rattle.cutter.proofs.cut.refusal.Tie as tie
+use Rattle.cutter.proofs.cut.refusal.Goals as goal
 
 module _ (h : Header) (track : List ℕ) (k room : ℕ) (bad : Bool) (e : bad ≡ bad_cut h) where
   form_refuses : bad ≡ true → Form ≡ cut_answer h track k room
@@ -75,18 +74,20 @@ module _ (h : Header) (track : List ℕ) (k room : ℕ) (bad : Bool) (e : bad �
 
 ruleset rows = (small, room_refuses, none_refuses, rules)
 
-pub refusal_spec : {M : Type 1} → statement M
-refusal_spec =
-    tie.close
-    (tie.spec
-    (λ c κs. search rules)
-    (λ c. search form_refuses)
-    (λ c. search data_refuses)
-    (λ c κs. search rules)
-    (λ c κs. search rules)
-    (λ c. search number_refuses)
-    (λ c κs. search rules)
-    (λ c κs. search rules)
-    (λ c. search rows depth 8 fits 6000)
-    (λ c. search rows depth 8 fits 6000)
-    (λ c. search rows depth 8 fits 6000))
+pub returns-then-bad_cut : goal.returns-then-bad_cut
+returns-then-bad_cut c = search form_refuses
+
+pub returns-then-track-ne0 : goal.returns-then-track-ne0
+returns-then-track-ne0 c = search data_refuses
+
+pub returns-then-bad_number : goal.returns-then-bad_number
+returns-then-bad_number c = search number_refuses
+
+pub overflow_add-data_size : goal.overflow_add-data_size
+overflow_add-data_size c = search rows depth 8 fits 6000
+
+pub returns-then-room-data_size : goal.returns-then-room-data_size
+returns-then-room-data_size c = search rows depth 8 fits 6000
+
+pub returns : goal.returns
+returns c = search rows depth 8 fits 6000

@@ -6,8 +6,7 @@ use Rattle.wire_rules.specs.declared.Header.{Header}
 use Rattle.wire_rules.specs.Write.{bad_form}
 use Rattle.wire_rules.proofs.Writing.{form_by}
 use Rattle.cutter_rules.proofs.Sizes.{frame_some}
-use Rattle.cutter.proofs.cut.bad_cut.Statement.{statement}
-use Rattle.cutter.proofs.cut.bad_cut.Tie as tie
+use Rattle.cutter.proofs.cut.bad_cut.Goals as goal
 
 ruleset tests = (flag_yes, flag_no, less_yes, less_no)
 
@@ -17,16 +16,19 @@ formed_few h sixteen bad e z =
     let g = form_by h (le_of_eq sixteen) (sym e ∙ z) in
     (g.frames_few.1, frame_some h g)
 
-sixteen : (c : tie.Start) → length c.args.h.name ≡ 16
-sixteen c = search rules
+pub returns-then-bad_form : goal.returns-then-bad_form
+returns-then-bad_form c = search tests depth 8
 
-pub bad_cut_spec : {M : Type 1} → statement M
-bad_cut_spec =
-    tie.close
-    (tie.spec
-    (λ c κs. search rules)
-    (λ c. search tests depth 8)
-    (λ c. search tests depth 8)
-    (λ c κs. search (formed_few c.before.before.before.before.args.h (sixteen c.before.before.before.before)))
-    (λ c. search tests depth 8)
-    (λ c. search tests depth 8))
+pub returns-then-h-gt8 : goal.returns-then-h-gt8
+returns-then-h-gt8 c = search tests depth 8
+
+pub is_over-requires : goal.is_over-requires
+is_over-requires c =
+    let sixteen : length c.args.h.name ≡ 16 = search rules in
+    search (formed_few c.args.h (sixteen))
+
+pub returns-then-is_over : goal.returns-then-is_over
+returns-then-is_over c = search tests depth 8
+
+pub returns : goal.returns
+returns c = search tests depth 8

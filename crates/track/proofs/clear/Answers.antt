@@ -9,14 +9,7 @@ use borrow.Author.Rules.{rules}
 use borrow.Author.Fill.{fill_more}
 use Rattle.lists.specs.Lists.{put}
 use Rattle.track_rules.specs.Records.{cleared_of}
-use Rattle.track.proofs.clear.Statement.{statement}
-use Rattle.track.proofs.clear.Tie as tie
-
-abbrev Inv : tie.invariant-loop
-Inv track₀ end i₀ track i = (i ≤ end) × (length track ≡ length track₀) × (track ≡ replicate i 0 ++ drop i track₀)
-
-abbrev μ : tie.decreases-loop
-μ track₀ end i₀ track i = end - i
+use Rattle.track.proofs.clear.Goals as goal
 
 more : (t track : List ℕ) (i : ℕ) → track ≡ replicate i 0 ++ drop i t → i < length t → set track i 0 ≡ replicate (i + 1) 0 ++ drop (i + 1) t
 more t track i p h = rw p (fill_more i 0 t h)
@@ -25,17 +18,11 @@ end : (t track : List ℕ) (i : ℕ) → track ≡ replicate i 0 ++ drop i t →
 unfolding cleared_of put
 end t track i p a b = p ∙ rw (le_antisymm a b, length-replicate)
 
-pub clear_spec : {M : Type 1} → statement M
-clear_spec =
-    tie.close
-    (tie.spec
-    Inv
-    μ
-    (λ c. search rules)
-    (λ c. (search rules, refl, refl))
-    (λ c. search rules)
-    (λ c. search rules)
-    (λ c. search rules)
-    (λ c. (search rules, simp length-set (search rules), more _ _ _ c.before.loop.invariant.2 (omega arith)))
-    (λ c. search rules)
-    (λ c. search end))
+pub loop-i-init : goal.loop-i-init
+loop-i-init c = (search rules, refl, refl)
+
+pub loop-i-preserved : goal.loop-i-preserved
+loop-i-preserved c = (search rules, simp length-set (search rules), more _ _ _ c.loop-i.invariant.2 (omega arith))
+
+pub returns : goal.returns
+returns c = search end
