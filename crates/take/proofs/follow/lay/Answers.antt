@@ -6,8 +6,7 @@ use Rattle.formats.specs.Formats.{format_of, MayRead, size_of, size_at}
 use Rattle.formats.proofs.Types.{read_known}
 use Rattle.wire_rules.specs.Header.{header_size}
 use Rattle.track_rules.specs.Records.{laid_of, packet_slot}
-use Rattle.take.proofs.follow.lay.Statement.{statement}
-use Rattle.take.proofs.follow.lay.Tie as tie
+use Rattle.take.proofs.follow.lay.Goals as goal
 
 module _ (format : ℕ) (f : Format) (e : f ≡ format_of format) where
   known : MayRead format → f ≡ Other → ⊥
@@ -20,11 +19,8 @@ module _ (format : ℕ) (f : Format) (e : f ≡ format_of format) where
       → out ≡ laid_of track place frames (packet_slot (format_of format) d header_size channels)
   by_format frames channels place d track out p = p ∙ rw e
 
-pub lay_spec : {M : Type 1} → statement M
-lay_spec =
-    tie.close
-    (tie.spec
-    (λ c κs. search rules)
-    (λ c κs. (known _ _ c.before.of-index.ensures c.before.before.before.before.requires.0, (search rules, search there, omega arith)))
-    (λ c. search rules)
-    (λ c. search by_format))
+pub lay-requires : goal.lay-requires
+lay-requires c = record { fact = known _ _ c.of_index.ensures c.requires.may_read; channels_bound = (search rules, search there, omega arith) }
+
+pub returns : goal.returns
+returns c = search by_format
