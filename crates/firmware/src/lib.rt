@@ -19,8 +19,7 @@ use answers::Answer;
 use wire_rules::Header;
 
 // The rate of an index, in Hz.
-#[unsafe(no_mangle)]
-pub extern "C" fn tashmirok_rate(index: u8, hertz: &mut u32) -> u8
+pub fn tashmirok_rate(index: u8, hertz: &mut u32) -> u8
     ensures answer { result ≡ number_of (rate_of index).answer }
     ensures hertz { hertz.new ≡ (rate_of index).hertz }
 {
@@ -31,8 +30,7 @@ pub extern "C" fn tashmirok_rate(index: u8, hertz: &mut u32) -> u8
 }
 
 // One number of a type as a number of another.
-#[unsafe(no_mangle)]
-pub extern "C" fn tashmirok_convert(from: u8, to: u8, number: i64, converted: &mut i64) -> u8
+pub fn tashmirok_convert(from: u8, to: u8, number: i64, converted: &mut i64) -> u8
     ensures answer { result ≡ number_made (convert_of from to number).answer }
     ensures converted { converted.new ≡ (convert_of from to number).value }
 {
@@ -44,8 +42,7 @@ pub extern "C" fn tashmirok_convert(from: u8, to: u8, number: i64, converted: &m
 }
 
 // One datagram: its header's numbers, its name and the number of its data bytes.
-#[unsafe(no_mangle)]
-pub extern "C" fn tashmirok_read(
+pub fn tashmirok_read(
     datagram: &[u8],
     fields: &mut [u32; 5],
     name: &mut [u8; 16],
@@ -73,8 +70,7 @@ pub extern "C" fn tashmirok_read(
 }
 
 // One packet into the lent output.
-#[unsafe(no_mangle)]
-pub extern "C" fn tashmirok_write(
+pub fn tashmirok_write(
     rate: u8,
     frames: u16,
     channels: u16,
@@ -105,8 +101,7 @@ pub extern "C" fn tashmirok_write(
 }
 
 // The most frames that a packet of a type and channels can have.
-#[unsafe(no_mangle)]
-pub extern "C" fn tashmirok_largest(format: u8, channels: u16, frames: &mut u16) -> u8
+pub fn tashmirok_largest(format: u8, channels: u16, frames: &mut u16) -> u8
     ensures answer { result ≡ number_made (largest_of format channels).answer }
     ensures frames { frames.new ≡ (largest_of format channels).frames }
 {
@@ -117,8 +112,7 @@ pub extern "C" fn tashmirok_largest(format: u8, channels: u16, frames: &mut u16)
 }
 
 // Packet `k` of a track, into the lent output.
-#[unsafe(no_mangle)]
-pub extern "C" fn tashmirok_cut(
+pub fn tashmirok_cut(
     rate: u8,
     frames: u16,
     channels: u16,
@@ -150,24 +144,21 @@ pub extern "C" fn tashmirok_cut(
 }
 
 // How many bytes a take has.
-#[unsafe(no_mangle)]
-pub extern "C" fn tashmirok_take_size() -> usize
+pub fn tashmirok_take_size() -> usize
     ensures { result ≡ 40 }
 {
     kept::SIZE
 }
 
 // How many bytes a tally has.
-#[unsafe(no_mangle)]
-pub extern "C" fn tashmirok_tally_size() -> usize
+pub fn tashmirok_tally_size() -> usize
     ensures { result ≡ 68 }
 {
     68
 }
 
 // A cleared tally.
-#[unsafe(no_mangle)]
-pub extern "C" fn tashmirok_clear_tally(tally: &mut [u32; 17])
+pub fn tashmirok_clear_tally(tally: &mut [u32; 17])
     ensures { tally.new ≡ cleared.counts }
 {
     let cleared = recorder::tally();
@@ -176,8 +167,7 @@ pub extern "C" fn tashmirok_clear_tally(tally: &mut [u32; 17])
 }
 
 // The count of an answer's number; 0 where no answer has it.
-#[unsafe(no_mangle)]
-pub extern "C" fn tashmirok_count(tally: &[u32; 17], number: u8) -> u32
+pub fn tashmirok_count(tally: &[u32; 17], number: u8) -> u32
     ensures { result ≡ count_for tally.now number }
 {
     let i = answers::count(number);
@@ -185,8 +175,7 @@ pub extern "C" fn tashmirok_count(tally: &[u32; 17], number: u8) -> u32
 }
 
 // A take for a name and a sender's address, on a lent track.
-#[unsafe(no_mangle)]
-pub extern "C" fn tashmirok_open(
+pub fn tashmirok_open(
     kept: &mut [u8; 40],
     name: &[u8; 16],
     address: u32,
@@ -215,8 +204,7 @@ fn raise(tally: &mut [u32; 17], answer: Answer)
 }
 
 // One datagram into the take; one count of the tally is raised.
-#[unsafe(no_mangle)]
-pub extern "C" fn tashmirok_follow(
+pub fn tashmirok_follow(
     kept: &mut [u8; 40],
     tally: &mut [u32; 17],
     address: u32,

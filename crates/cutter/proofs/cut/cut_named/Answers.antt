@@ -35,12 +35,12 @@ module _ (h : Header) (track : List ℕ) (k : ℕ) (out : List ℕ) (a : Made) (
     done = made_told a Done (sym q ∙ z)
 
     module _ (sixteen : length h.name ≡ 16) where
-      rules : Cuttable h track k (length out)
-      rules = (cut_done_exactly h (le_of_eq sixteen) track k (length out)).0 (sym e ∙ done)
+      kept_rules : Cuttable h track k (length out)
+      kept_rules = (cut_done_exactly h (le_of_eq sixteen) track k (length out)).0 (sym e ∙ done)
 
       -- what was measured of the name are its characters
       name_measured : (name : List ℕ) → name ≡ h.name → (named : ℕ) → named ≡ measured name → named ≡ length (name_of name)
-      name_measured name p named m = m ∙ good_measured name (rw p rules.good.formed.named)
+      name_measured name p named m = m ∙ good_measured name (rw p kept_rules.good.formed.named)
 
     module _ (t : ℕ) (p : t ≡ records_held track) (hk : Header) (m : hk ≡ packet_header h (schedule_of t h.frames) k)
         (from : ℕ) (f : from ≡ k * h.frames) where
@@ -53,14 +53,14 @@ module _ (h : Header) (track : List ℕ) (k : ℕ) (out : List ℕ) (a : Made) (
       module _ (sixteen : length h.name ≡ 16) where
         good_form : GoodForm hk
         good_form =
-            let r = rules sixteen in
+            let r = kept_rules sixteen in
             let g = r.good.formed in
             rw is_packet (packet_formed h g s k (count_few h track r.good k r.number.below)
             ((divided (records_held track) h.frames g.frames_few.0).some k r.number.below))
 
         in_range : (hk.channels ≤ 8) × (from + hk.frames ≤ records_held track) × (header_size + data_size hk ≤ length out)
         in_range =
-            let r = rules sixteen in
+            let r = kept_rules sixteen in
             let d = divided (records_held track) h.frames r.good.formed.frames_few.0 in
             rw (is_packet, f) (r.good.channels_few, within_track d k r.number.below, r.roomy)
 
@@ -73,17 +73,6 @@ module _ (h : Header) (track : List ℕ) (k : ℕ) (out : List ℕ) (a : Made) (
         w ∙ rw (is_packet, f) (sym (done_output h track k out a e done)),
       )
 
--- what passed the checks can be written
-in_room : (c : goal.After-emit-arg-1)
-    → let hk = c.packet_header-hk.result in
-    let a = c.args in
-    (hk.channels ≤ 8) × (c.from-from.result + hk.frames ≤ records_held a.track.now) × (header_size + data_size hk ≤ length a.out.now)
-in_room c =
-    let b = c in
-    let a = c.args in
-    in_range a.h a.track.now a.k a.out.now _ _ b.refusal-a.ensures b.number_made.ensures
-    b.if-number_made-ne0.false _ c.held.ensures _ c.packet_header-hk.ensures _ c.from-from.ensures (sixteen (start c))
-
 pub refusal-a-requires : goal.refusal-a-requires
 refusal-a-requires c = c.measure-named.ensures ∙ ap measured c.requires
 
@@ -93,18 +82,25 @@ returns-then-number_made-ne0 c = let whole = refused _ _ _ _ _ _ c.refusal-a.ens
 pub emit-requires : goal.emit-requires
 emit-requires c =
     let sixteen : length c.args.h.name ≡ 16 = search rules in
-    let l = sixteen in
-record { name_value = search packet_named; named_value = search name_measured; good_form = search good_form; channels_bound = in_room c }
+    let hk = c.packet_header-hk.result in
+    let room : (hk.channels ≤ 8) × (c.from-from.result + hk.frames ≤ records_held c.args.track.now) × (header_size + data_size hk ≤ length c.args.out.now) =
+    in_range c.args.h c.args.track.now c.args.k c.args.out.now _ _ c.refusal-a.ensures c.number_made.ensures
+    c.if-number_made-ne0.false _ c.held.ensures _ c.packet_header-hk.ensures _ c.from-from.ensures sixteen in
+    record { name_value = search packet_named; named_value = search name_measured; good_form = search good_form; channels_bound = room }
 
 pub overflow_add-result : goal.overflow_add-result
 overflow_add-result c =
+    let sixteen : length c.args.h.name ≡ 16 = search rules in
+    let hk = c.packet_header-hk.result in
+    let room : (hk.channels ≤ 8) × (c.from-from.result + hk.frames ≤ records_held c.args.track.now) × (header_size + data_size hk ≤ length c.args.out.now) =
+    in_range c.args.h c.args.track.now c.args.k c.args.out.now _ _ c.refusal-a.ensures c.number_made.ensures
+    c.if-number_made-ne0.false _ c.held.ensures _ c.packet_header-hk.ensures _ c.from-from.ensures sixteen in
     let small : length c.args.out.now < 2 ^ 64 = omega arith in
-    let e = c in
-    omega (arith, (in_room e).2, c.data_size.ensures, small)
+    omega (arith, room.2, c.data_size.ensures, small)
 
 pub returns : goal.returns
-returns c = let e = c in
-    let b = e in
-let whole = written _ _ _ _ _ _ b.refusal-a.ensures b.number_made.ensures b.if-number_made-ne0.false _
-    e.held.ensures _ e.packet_header-hk.ensures _ e.from-from.ensures _ _
-    c.data_size.ensures c.emit.ensures in record { answer = whole.0; output = whole.1 }
+returns c =
+    let whole =
+    written _ _ _ _ _ _ c.refusal-a.ensures c.number_made.ensures c.if-number_made-ne0.false _ c.held.ensures _ c.packet_header-hk.ensures _ c.from-from.ensures _ _
+    c.data_size.ensures c.emit.ensures in
+    record { answer = whole.0; output = whole.1 }
