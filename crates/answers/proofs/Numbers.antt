@@ -1,5 +1,6 @@
 -- Each answer has a number of its own, and a count of its own in the house tally.
 use mathlib.Core.Path.{◌≡◌, refl, sym, ap, ◌∙◌}
+use mathlib.Core.Logic.{◌↔◌}
 use mathlib.Core.Bool.{false}
 use mathlib.Core.List.{List, [], ◌∷◌}
 use Prim.Native.Nat.{ℕ, ◌-◌, ◌≤◌, ◌<◌}
@@ -18,6 +19,11 @@ use Rattle.answers.specs.Numbers.{number_of, number_made, counts_kept, count_of}
 module _ {A : Type 0} (number : A → ℕ) (named : ℕ → A) (back : (a : A) → named (number a) ≡ a) where
   pub told : (a b : A) → number a ≡ number b → a ≡ b
   told a b e = sym (back a) ∙ ap named e ∙ back b
+
+-- what is so exactly when an answer's number is told is so exactly when that answer is
+module _ {A : Type 0} (number : A → ℕ) (told : (a b : A) → number a ≡ number b → a ≡ b) where
+  by_number : {a b : A} {P : Type 0} → number a ≡ number b ↔ P → a ≡ b ↔ P
+  by_number {a} {b} e = ((λ q. e.0 (ap number q)), (λ p. told a b (e.1 p)))
 
 -- the answers of following in the order of their counts
 abbrev kept : List Answer
@@ -89,3 +95,13 @@ named_made_number Sample = refl
 
 pub made_told : (a b : Made) → number_made a ≡ number_made b → a ≡ b
 made_told = told number_made named_made named_made_number
+
+pub refusal_made : (a : Made) → (a ≡ Done → ⊥) → eqb (number_made a) 0 ≡ false
+refusal_made a z = ne_eqb (number_made a) 0 (λ e. z (made_told a Done e))
+
+-- 0 is acceptance, and nothing else is
+pub accepted_by_number : {a : Answer} {P : Type 0} → number_of a ≡ 0 ↔ P → a ≡ Accepted ↔ P
+accepted_by_number = by_number number_of number_told
+
+pub done_by : {a : Made} {P : Type 0} → number_made a ≡ 0 ↔ P → a ≡ Done ↔ P
+done_by = by_number number_made made_told

@@ -1,6 +1,6 @@
 -- Capture records (document 01, "Track and capture"): 1,472 bytes each.
-use Rattle.std.specs.Prelude.{ℕ, ◌-◌, List, ◌++◌, length, take, drop, replicate, eqb}
-use Rattle.lists.specs.Little.{little, bytes_of}
+use Rattle.std.specs.Prelude.{ℕ, ◌-◌, ◌≡◌, List, ◌++◌, length, take, drop, replicate, eqb}
+use Rattle.lists.specs.Little.{little, weighed, bytes_of}
 use Rattle.lists.specs.Tables.{choose}
 use Rattle.answers.specs.Numbers.{number_made}
 use Rattle.wire_rules.specs.declared.Header.{Header}
@@ -26,6 +26,12 @@ datagram_of r = take (length_of r) (drop 8 r) ++ replicate (length_of r - datagr
 -- our record of a datagram: its padding is zero
 unfoldable pub capture_record : ℕ → List ℕ → List ℕ
 capture_record address d = bytes_of 4 address ++ (bytes_of 4 (length d) ++ (d ++ replicate (datagram_most - length d) 0))
+
+-- a record's bytes, as the paper has them: the sender's address, the length and the datagram
+pub record SpellsRecord (r : List ℕ) (address : ℕ) (d : List ℕ) : Type 0 where
+  pub sender : weighed 4 r 0 ≡ address
+  pub size : weighed 4 r 4 ≡ length d
+  pub datagram : take (length d) (drop 8 r) ≡ d
 
 -- the record of packet k; a refusal leaves what stood there
 unfoldable pub cut_record : Header → List ℕ → ℕ → ℕ → List ℕ → List ℕ

@@ -91,6 +91,26 @@ module _ (t : ℕ) where
   unfolding MayRead MayConvert
   convert_known h = read_known h
 
+-- every whole-number type is read, sent and converted
+
+index_few : (f : Integer) → index_of f ≤ 3
+index_few Unsigned8 = lit≤ tt
+index_few Signed16 = lit≤ tt
+index_few Signed24 = lit≤ tt
+index_few Signed32 = lit≤ tt
+
+pub whole_read : (f : Integer) → MayRead (index_of f)
+unfolding MayRead
+whole_read = index_few
+
+pub whole_sent : (f : Integer) → MaySend (index_of f)
+unfolding MaySend
+whole_sent = index_few
+
+pub whole_converted : (f : Integer) → MayConvert (index_of f)
+unfolding MayConvert
+whole_converted = index_few
+
 -- ---- sizes
 
 pub whole_le : (f : Integer) → whole_size f ≤ 4

@@ -8,7 +8,7 @@ use lib.Arith.{digits_mod}
 use lib.ListN.{length, take, drop, get_or-append}
 use lib.Seq.{drop-cons, get_or-append-add, get_or-take, get_or-drop}
 use Rattle.lists.specs.Lists.{byte}
-use Rattle.lists.specs.Little.{little, bytes_of}
+use Rattle.lists.specs.Little.{little, weighed, bytes_of}
 
 -- a byte is taken off before the others
 shift : (u j : ℕ) → u / 256 / 256 ^ j ≡ u / 256 ^ suc j
@@ -144,3 +144,18 @@ bytes_back (suc n) d a l h =
     let p : (byte d a + r * 256) % 256 ≡ byte d a = omega arith in
     let q : (byte d a + r * 256) / 256 ≡ r = omega arith in
     rw (p, q, drop-cons d a 0 (omega arith)) (ap (λ (m : List ℕ). byte d a ∷ m) (bytes_back n d (suc a) (omega arith) h))
+
+-- ---- what each byte weighs
+
+-- a byte more, above the others
+little_more : (n : ℕ) (d : List ℕ) (a : ℕ) → little (suc n) d a ≡ little n d a + byte d (a + n) * 256 ^ n
+unfolding little
+little_more zero d a = rw (add-zero a) (omega arith)
+little_more (suc n) d a =
+    let e : little (suc n) d (suc a) ≡ little n d (suc a) + byte d (a + suc n) * 256 ^ n = rw (suc-add a n, ← add-suc a n) at (little_more n d (suc a)) in
+    rw (pow-suc 256 n, ← mul_assoc (byte d (a + suc n)) (256 ^ n) 256) (omega (arith, e))
+
+pub little_weighs : (n : ℕ) (d : List ℕ) (a : ℕ) → weighed n d a ≡ little n d a
+unfolding little
+little_weighs zero d a = refl
+little_weighs (suc n) d a = rw (little_weighs n d a) (sym (little_more n d a))

@@ -1,5 +1,6 @@
 -- What callers know of a track: which bytes clearing and laying change, and to what; and what frames taken out hold.
 use mathlib.Core.Path.{◌≡◌, refl, sym, ap, ◌∙◌}
+use mathlib.Core.Logic.{◌↔◌}
 use mathlib.Core.List.{List, ◌++◌}
 use Prim.Native.Nat.{ℕ, ◌+◌, ◌*◌, ◌-◌, ◌^◌, ◌≤◌, ◌<◌, zero-le}
 use native.Mathlib.Nat.{add_assoc, zero-add}
@@ -10,10 +11,10 @@ use lib.IntN.{pos}
 use lib.ListN.{length, replicate, length-replicate, get_or-replicate}
 use borrow.Author.Tests.{lt-ltb, le-ltb}
 use Rattle.lists.specs.Lists.{byte, up_to}
-use Rattle.lists.specs.Little.{little, bytes_of}
+use Rattle.lists.specs.Little.{little, weighed, bytes_of}
 use Rattle.lists.specs.Tables.{choose}
 use Rattle.lists.proofs.Lists.{within, put_length, put_before, put_inside, put_after, up_to_length, up_to_at}
-use Rattle.lists.proofs.Little.{bytes_length, little_below, little_same, little_spelled, little_zero, little_after}
+use Rattle.lists.proofs.Little.{bytes_length, little_below, little_same, little_spelled, little_zero, little_after, little_weighs}
 use Rattle.formats.specs.declared.Format.{Format}
 use Rattle.formats.specs.declared.Integer.{Integer}
 use Rattle.formats.specs.Formats.{whole_size, size_of, width_of}
@@ -33,6 +34,16 @@ sample_below f d a h = rw (← whole_bytes f) (little_below (whole_size f) d a h
 
 pub slot_fits : (t : List ℕ) (i c : ℕ) → ((j : ℕ) → byte t j < 256) → slot_at t i c < 2 ^ 24
 slot_fits t i c h = little_below 3 t (i * 24 + c * 3) h
+
+-- ---- whole records
+
+-- a track holds n records exactly when it has their bytes
+pub held_exactly : (t : List ℕ) (n : ℕ) → n ≤ records_held t ↔ n * 24 ≤ length t
+held_exactly t n = ((λ h. omega arith), (λ h. omega arith))
+
+-- a slot is three bytes, each weighing what its place says
+pub slot_weighs : (t : List ℕ) (i c : ℕ) → weighed 3 t (i * 24 + c * 3) ≡ slot_at t i c
+slot_weighs t i c = little_weighs 3 t (i * 24 + c * 3)
 
 -- ---- clearing
 

@@ -1,5 +1,7 @@
 pub mod Names
+pub mod Rates
 pub mod Joining
 pub mod Reading
 pub mod Writing
 pub mod RoundTrip
+pub mod Spelling

@@ -188,3 +188,19 @@ module _ (m n : List ℕ) where
   pub same_exactly : same_name m n ≡ true ↔ name_of m ≡ name_of n
   unfolding same_name
   same_exactly = (same_bytes_is (name_of m) (name_of n), (λ e. rw e (bytes_same (name_of n))))
+
+-- ---- what is kept after the name is zero
+
+zeros_at : (k i : ℕ) → ◌≡◌ {A = ℕ} (get_or (replicate k 0) i 0) 0
+zeros_at zero i = get_or-eq_default [] 0 {n = i} zero-le
+zeros_at (suc k) zero = refl
+zeros_at (suc k) (suc i) = zeros_at k i
+
+past_zeros : (s : List ℕ) (k i : ℕ) → length s ≤ i → get_or (s ++ replicate k 0) i 0 ≡ 0
+past_zeros [] k i h = zeros_at k i
+past_zeros (x ∷ s) k zero h = absurd (not-suc-le-zero h)
+past_zeros (x ∷ s) k (suc i) h = past_zeros s k i (le_of_suc-le-suc h)
+
+pub kept_zeros : (n : List ℕ) (i : ℕ) → length (name_of n) ≤ i → get_or (kept_name n) i 0 ≡ 0
+unfolding kept_name
+kept_zeros n i h = past_zeros (name_of n) (16 - length (name_of n)) i h

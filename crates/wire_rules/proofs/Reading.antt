@@ -1,5 +1,5 @@
 -- Reading alone answers as the paper's rules say.
-use mathlib.Core.Path.{◌≡◌, sym, ap, ◌∙◌}
+use mathlib.Core.Path.{◌≡◌, refl, sym, ap, ◌∙◌}
 use mathlib.Core.Logic.{◌↔◌}
 use mathlib.Core.Bool.{false, not}
 use mathlib.Core.List.{List, [], ◌∷◌, ◌++◌}
@@ -7,21 +7,22 @@ use Prim.Native.Nat.{ℕ, zero, suc, ◌+◌, ◌≤◌, ◌<◌}
 use native.Mathlib.Nat.{add-zero, add-suc, suc-add, min-le_left}
 use native.Mathlib.Omega.{arith}
 use lib.Dec.{ltb, lit<}
-use lib.ListN.{length, take, drop, length-take, get_or-eq_default}
+use lib.ListN.{length, take, drop, replicate, length-take, get_or-eq_default}
 use lib.Seq.{drop-cons, get_or-take}
 use borrow.Author.Tests.{ltb-true, ltb-false, ne_eqb, not-false}
 use Rattle.lists.specs.Lists.{byte}
 use Rattle.lists.specs.Tables.{Row, first, unlike}
-use Rattle.lists.specs.Rules.{Rules, done, AllHold, FirstBroken}
+use Rattle.lists.specs.Rules.{Rules, done, numbers_of, AllHold, FirstBroken}
 use Rattle.lists.proofs.Tables.{by_test, like_by, none_holds, none_says}
 use Rattle.lists.proofs.Rules.{Judges, judged, judged_less, judged_unlike, none_answers, all_hold_exactly, first_broken_exactly}
 use Rattle.answers.specs.declared.Answer.{Answer}
 use Rattle.answers.specs.declared.Answer.TheVariants.{Accepted}
 use Rattle.answers.specs.Numbers.{number_of}
-use Rattle.answers.proofs.Numbers.{number_told}
+use Rattle.answers.proofs.Numbers.{number_told, refusal_number}
 use Rattle.formats.specs.Formats.{may_read}
 use Rattle.formats.proofs.Types.{read_by, by_read}
-use Rattle.wire_rules.specs.Header.{foreign, sub_bits, codec_bits, reserved_bit, rate_bits, format_bits, name_field, header_of, no_header, data_size}
+use Rattle.wire_rules.specs.declared.Header.{Header}
+use Rattle.wire_rules.specs.Header.{foreign, sub_bits, codec_bits, reserved_bit, rate_bits, format_bits, name_field, header_of, no_header, data_size, header_rows, header_rules, header_alone}
 use Rattle.wire_rules.specs.Read.{front_rows, audio_rows, read_rows, read_of, Readable, front_rules, audio_rules, read_rules}
 use Rattle.wire_rules.specs.Names.{good_name}
 use Rattle.wire_rules.proofs.Names.{good_exactly}
@@ -42,6 +43,10 @@ run_is d k (suc n) h =
 within : (d : List ℕ) (i : ℕ) → (byte d i ≡ 0 → ⊥) → i < length d
 within d i h =
     by_test (λ b. i < length d) (ltb i (length d)) (ltb-true i (length d)) (λ t. absurd (h (get_or-eq_default d 0 (ltb-false _ _ t))))
+
+-- a header of zeros, written out
+abbrev zeros : Header
+zeros = record { rate = 0; frames = 0; channels = 0; format = 0; name = replicate 16 0; counter = 0 }
 
 -- ---- each row judges its rule
 
@@ -93,6 +98,10 @@ module _ (d : List ℕ) where
   judges : Judges (read_rows d) (read_rules d)
   judges = front_judges (audio_rows d) (audio_rules d done) (audio_judges [] done tt)
 
+  -- the table's numbers, in its order
+  pub read_numbers : numbers_of number_of (read_rules d) ≡ 1 ∷ 2 ∷ 3 ∷ 4 ∷ 6 ∷ 7 ∷ 8 ∷ 9 ∷ 10 ∷ 11 ∷ []
+  read_numbers = refl
+
   all_hold : (read_of d).answer ≡ Accepted ↔ AllHold (read_rules d)
   unfolding read_of
   all_hold =
@@ -139,3 +148,39 @@ module _ (d : List ℕ) where
   read_accepted_size e =
       let r = read_accepted_exactly.0 e in
       rw (read_accepted_fields e) (r.exact, omega arith)
+
+  -- ---- the header alone
+
+  header_judges : Judges (header_rows d) (header_rules d)
+  header_judges =
+      let named = good_exactly (name_field d) field_short in
+      judged (foreign d) by_mark mark_by
+      (judged (not (good_name (name_field d))) (λ g. ap not (named.1 g)) (λ e. named.0 (not-false _ e))
+      (judged_unlike (sub_bits (byte d 4)) 0
+      (judged_unlike (codec_bits (byte d 7)) 0
+      (judged_unlike (reserved_bit (byte d 7)) 0
+      (judged_less 20 (rate_bits (byte d 4))
+      (judged (not (may_read (format_bits (byte d 7)))) (λ h. ap not (by_read _ h)) (λ e. read_by _ (not-false _ e)) tt))))))
+
+  pub header_numbers : numbers_of number_of (header_rules d) ≡ 3 ∷ 4 ∷ 6 ∷ 7 ∷ 8 ∷ 9 ∷ 10 ∷ []
+  header_numbers = refl
+
+  -- accepted exactly when every rule holds
+  pub header_accepted_exactly : (header_alone d).answer ≡ Accepted ↔ AllHold (header_rules d)
+  unfolding header_alone
+  header_accepted_exactly =
+      all_hold_exactly Accepted (header_rows d) (header_rules d) header_judges
+      (none_answers Accepted (header_rows d) (header_rules d) header_judges (none_says Accepted number_of (header_rows d) tt))
+
+  -- another answer exactly when its rule is broken and all before it hold
+  pub header_refused_exactly : (a : Answer) → (a ≡ Accepted → ⊥) → (header_alone d).answer ≡ a ↔ FirstBroken (header_rules d) a
+  unfolding header_alone
+  header_refused_exactly = first_broken_exactly Accepted (header_rows d) (header_rules d) header_judges
+
+  pub header_refused_zeros : ((header_alone d).answer ≡ Accepted → ⊥) → header_alone d ≡ record { answer = (header_alone d).answer; header = zeros }
+  unfolding header_alone
+  header_refused_zeros other = rw (refusal_number (first Accepted (header_rows d)) other)
+
+  pub header_accepted_fields : (header_alone d).answer ≡ Accepted → header_alone d ≡ record { answer = Accepted; header = header_of d }
+  unfolding header_alone
+  header_accepted_fields e = rw e

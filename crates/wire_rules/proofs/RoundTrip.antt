@@ -178,3 +178,9 @@ read_writes_back d out bytes w =
     let p = same_bytes_is d bytes r w.zeros in
     let f : (read_of d).header ≡ h = ap (λ (a : Read). a.header) (read_accepted_fields d w.accepted) in
     record { packet = rw f p; answer = rw f (g.0 ∙ rw (← s)); output = rw f (g.1 ∙ rw p) }
+
+-- the writer puts zeros after the name
+pub written_name : (h : Header) (samples out : List ℕ) → Typed h → (write_of h samples out).answer ≡ Done
+    → take 16 (drop 8 (packet_of h samples)) ≡ kept_name h.name
+written_name h samples out t e =
+    field_back h t.sixteen samples t.counter ((write_done_exactly h (le_of_eq t.sixteen) samples out).0 e).formed

@@ -1,5 +1,5 @@
 -- Writing one packet answers as the paper's rules say.
-use mathlib.Core.Path.{◌≡◌}
+use mathlib.Core.Path.{◌≡◌, refl}
 use mathlib.Core.Logic.{◌↔◌}
 use mathlib.Core.Bool.{false, not}
 use mathlib.Core.List.{List, [], ◌∷◌}
@@ -10,7 +10,7 @@ use lib.ListN.{length}
 use borrow.Author.Tests.{ltb-false, le-ltb, eqb-true, ne_eqb, not-false}
 use Rattle.lists.specs.Lists.{put}
 use Rattle.lists.specs.Tables.{choose, first, outside}
-use Rattle.lists.specs.Rules.{FirstBroken}
+use Rattle.lists.specs.Rules.{numbers_of, FirstBroken}
 use Rattle.lists.proofs.Tables.{by_test, none_holds, none_says, inside_by, by_inside}
 use Rattle.lists.proofs.Rules.{Judges, judged, judged_less, judged_unlike, none_answers, all_hold_exactly, first_broken_exactly}
 use Rattle.answers.specs.declared.Made.{Made}
@@ -57,6 +57,10 @@ module _ (h : Header) (short : length h.name ≤ 16) where
         (judged_less data_most (data_size h)
         (judged_unlike given (data_size h)
         (judged_less room (header_size + given) tt)))
+
+    -- the table's numbers, in its order
+    pub write_numbers : numbers_of number_made (write_rules h given room) ≡ 20 ∷ 21 ∷ 22 ∷ 23 ∷ []
+    write_numbers = refl
 
     pub done_exactly : first Done (write_rows h given room) ≡ Done ↔ Writable h given room
     done_exactly =

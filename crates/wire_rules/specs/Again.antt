@@ -1,6 +1,7 @@
 -- Reading what was written, and writing what was read (document 01, "The 28 bytes").
-use Rattle.std.specs.Prelude.{ℕ, ◌+◌, ◌^◌, ◌≤◌, ◌<◌, ◌≡◌, List, [], length, take, drop, eqb}
+use Rattle.std.specs.Prelude.{ℕ, ◌+◌, ◌^◌, ◌≤◌, ◌<◌, ◌≡◌, List, [], ◌∷◌, length, take, drop, eqb}
 use Rattle.lists.specs.Lists.{byte, put}
+use Rattle.lists.specs.Little.{weighed}
 use Rattle.lists.specs.Tables.{choose}
 use Rattle.answers.specs.declared.Answer.TheVariants.{Accepted}
 use Rattle.answers.specs.declared.Made.TheVariants.{Done}
@@ -61,3 +62,14 @@ pub record WritesBack (d out : List ℕ) : Type 0 where
   pub packet : packet_of (read_of d).header (drop header_size d) ≡ d
   pub answer : write_of (read_of d).header (drop header_size d) out ≡ record { answer = Done; length = length d }
   pub output : output_of (read_of d).header (drop header_size d) out ≡ put out 0 d
+
+-- ---- the table of the 28 bytes, said of a datagram that holds a header: audio, PCM, the reserved bit zero
+
+pub record Spells (d : List ℕ) (h : Header) : Type 0 where
+  pub mark : take 4 d ≡ 0x56 ∷ 0x42 ∷ 0x41 ∷ 0x4E ∷ []
+  pub rate : byte d 4 ≡ h.rate
+  pub frames : byte d 5 + 1 ≡ h.frames
+  pub channels : byte d 6 + 1 ≡ h.channels
+  pub format : byte d 7 ≡ h.format
+  pub name : kept_name (take 16 (drop 8 d)) ≡ h.name
+  pub counter : weighed 4 d 24 ≡ h.counter

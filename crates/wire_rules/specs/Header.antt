@@ -1,15 +1,16 @@
 -- The 28 bytes (document 01, "The 28 bytes").
-use Rattle.std.specs.Prelude.{ℕ, ◌+◌, ◌*◌, ◌/◌, ◌%◌, List, [], ◌∷◌, ◌++◌, Bool, not, take, drop, replicate, ltb, eqb}
+use Rattle.std.specs.Prelude.{ℕ, ◌+◌, ◌*◌, ◌/◌, ◌%◌, ◌≤◌, ◌≡◌, List, [], ◌∷◌, ◌++◌, Bool, not, take, drop, replicate, ltb, eqb}
 use Rattle.lists.specs.Lists.{byte}
 use Rattle.lists.specs.Little.{little}
 use Rattle.lists.specs.Tables.{Row, row, choose, first, any, unlike}
+use Rattle.lists.specs.Rules.{Rules, done, rule}
 use Rattle.answers.specs.declared.Answer.{Answer}
 use Rattle.answers.specs.declared.Answer.TheVariants.{Accepted, Foreign, Name, SubProtocol, Codec, Reserved, Rate, DataType}
 use Rattle.answers.specs.Numbers.{number_of}
-use Rattle.formats.specs.Formats.{may_read, size_at}
+use Rattle.formats.specs.Formats.{MayRead, may_read, size_at}
 use Rattle.wire_rules.specs.declared.Header.{Header}
 use Rattle.wire_rules.specs.declared.HeaderRead.{HeaderRead}
-use Rattle.wire_rules.specs.Names.{good_name, kept_name}
+use Rattle.wire_rules.specs.Names.{good_name, kept_name, GoodName}
 
 -- the bytes of a header, the most data bytes, and the most bytes of a datagram
 abbrev pub header_size : ℕ
@@ -99,6 +100,27 @@ field_rows d = bit_rows (byte d 4) (byte d 7)
 
 abbrev pub header_rows : List ℕ → List (Row Answer)
 header_rows d = mark_rows d ++ field_rows d
+
+-- the same as rules, as the paper has them, each with the answer that is given where it is broken: 3 and 4, then the rest
+abbrev pub mark_rules : List ℕ → Rules Answer → Rules Answer
+mark_rules d rest =
+    rule Foreign (take 4 d ≡ 0x56 ∷ 0x42 ∷ 0x41 ∷ 0x4E ∷ [])
+    (rule Name (GoodName (name_field d))
+    rest)
+
+-- 6 to 10, then the rest
+abbrev pub field_rules : List ℕ → Rules Answer → Rules Answer
+field_rules d rest =
+    rule SubProtocol (sub_bits (byte d 4) ≡ 0)
+    (rule Codec (codec_bits (byte d 7) ≡ 0)
+    (rule Reserved (reserved_bit (byte d 7) ≡ 0)
+    (rule Rate (rate_bits (byte d 4) ≤ 20)
+    (rule DataType (MayRead (format_bits (byte d 7)))
+    rest))))
+
+-- the header alone, as `cut.bin` has it (document 01, "Bench table": "whose header rows 3, 4 or 6 to 10 refuse")
+abbrev pub header_rules : List ℕ → Rules Answer
+header_rules d = mark_rules d (field_rules d done)
 
 -- on 0 the fields, on a refusal zeros
 abbrev pub header_answered : Answer → List ℕ → HeaderRead
