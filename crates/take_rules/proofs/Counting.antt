@@ -16,7 +16,7 @@ use Rattle.answers.proofs.Numbers.{number_told, count_told, count_below}
 use Rattle.take_rules.specs.declared.Tally.{Tally}
 use Rattle.take_rules.specs.Follow.{followed_of}
 use Rattle.take_rules.specs.Tally.{cleared, one_more, raised_of, tallied_of}
-use Rattle.take_rules.specs.Box.{Box, Event, tells_of, after as box_after}
+use Rattle.take_rules.specs.Box.{Box, Event, tells_of, follows, after as box_after}
 use Rattle.take_rules.specs.History.{Call, answer_to, tally_after, answered_so, sum, Few, answers_after, told_so}
 
 -- where an answer's count stands
@@ -233,10 +233,15 @@ raised_sums (b ∷ past) few =
     own : suc (told_so (number_of b) past) ≤ top
     own = rw (eq-eqb (number_of b) (number_of b) refl) at (few b)
 
-box_is : (b : Box) → b.tally ≡ cleared → (past : List Event) → (box_after b past).tally ≡ raised_by cleared (answers_after b past)
+-- an event raises the count of what is told of it
+box_step : (b : Box) (e : Event) → (follows b e).tally ≡ raised_of b.tally (tells_of b e).answer
 unfolding tallied_of
+box_step b e = refl
+
+box_is : (b : Box) → b.tally ≡ cleared → (past : List Event) → (box_after b past).tally ≡ raised_by cleared (answers_after b past)
 box_is b z [] = z
-box_is b z (e ∷ past) = ap (λ (t : Tally). raised_of t (tells_of (box_after b past) e).answer) (box_is b z past)
+box_is b z (e ∷ past) =
+    box_step (box_after b past) e ∙ ap (λ (t : Tally). raised_of t (tells_of (box_after b past) e).answer) (box_is b z past)
 
 module _ (b : Box) (z : b.tally ≡ cleared) (past : List Event) where
   pub box_counts : (a : Answer) → get_or (box_after b past).tally.counts (count_at a) 0 ≡ min top (told_so (number_of a) (answers_after b past))
