@@ -10,7 +10,7 @@ use lib.ListN.{length}
 use borrow.Author.Tests.{ltb-false, le-ltb, leb-false, lt-leb, eqb-true, eqb-false, ne_eqb}
 use Rattle.lists.specs.Lists.{put}
 use Rattle.lists.specs.Tables.{choose, NoneRefuses}
-use Rattle.lists.specs.Rules.{AllHold, FirstBroken}
+use Rattle.lists.specs.Rules.{numbers_of, AllHold, FirstBroken}
 use Rattle.lists.proofs.Tables.{by_test, like_by, none_holds, none_says, passes_exactly}
 use Rattle.lists.proofs.Rules.{Judges, judged, judged_unlike, none_answers, all_hold_exactly, first_broken_exactly}
 use Rattle.answers.specs.declared.Made.{Made}
@@ -68,6 +68,10 @@ module _ (h : Header) (short : length h.name ≤ 16) (track : List ℕ) (k room 
       (judged_unlike (length track % record_bytes) 0
       (judged (bad_number s (records_held track) k) (by_number s (records_held track) k) (number_by s (records_held track) k)
       (write_judges hk short (data_size hk) room)))
+
+  -- 20, 22 and 24, then the writer's
+  pub cut_numbers : numbers_of number_made (cut_rules h track k room) ≡ 20 ∷ 22 ∷ 24 ∷ 20 ∷ 21 ∷ 22 ∷ 23 ∷ []
+  cut_numbers = refl
 
   -- every rule in a record, and in the paper's order
   cuttable : AllHold (cut_rules h track k room) → Cuttable h track k room

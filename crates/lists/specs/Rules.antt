@@ -1,9 +1,14 @@
 -- The same as propositions: rules in the paper's order, each with the answer that is given where it is broken.
-use Rattle.std.specs.Prelude.{◌≡◌, ◌⊎◌}
+use Rattle.std.specs.Prelude.{◌≡◌, ◌⊎◌, List, [], ◌∷◌, ℕ}
 
 pub data Rules (A : Type 0) : Type 1 where
   done : Rules A
   rule : A → Type 0 → Rules A → Rules A
+
+-- the numbers of their answers, in order
+abbrev pub numbers_of : {A : Type 0} → (A → ℕ) → Rules A → List ℕ
+numbers_of number done = []
+numbers_of number (rule a holds rest) = number a ∷ numbers_of number rest
 
 -- every rule holds
 abbrev pub AllHold : {A : Type 0} → Rules A → Type 0

@@ -9,7 +9,7 @@ use lib.Dec.{ltb}
 use lib.ListN.{length, replicate}
 use borrow.Author.Tests.{ltb-false, le-ltb, eq-eqb, not-false}
 use Rattle.lists.specs.Tables.{choose, row, any, unlike, outside, NoneRefuses}
-use Rattle.lists.specs.Rules.{rule, AllHold, FirstBroken}
+use Rattle.lists.specs.Rules.{rule, numbers_of, AllHold, FirstBroken}
 use Rattle.lists.proofs.Tables.{by_test, true_false, like_by, none_holds, inside_by, by_inside, none_says, passes_exactly}
 use Rattle.lists.proofs.Rules.{Judges, judged, judged_less, none_answers, all_hold_exactly, first_broken_exactly}
 use Rattle.answers.specs.declared.Answer.{Answer}
@@ -168,6 +168,11 @@ module _ (t : Take) (address : ℕ) (d : List ℕ) (held : ℕ) (short : length 
       judged (bad_state t) (by_state t short) (state_by t short)
       (front_judges d (row OtherStream (other_stream t.who address d) ∷ packet_rows t d held)
       (rule OtherStream (OurStream t.who address d) (packet_rules t d held)) stream_judges)
+
+  -- the table's numbers, in its order
+  pub follow_numbers : numbers_of number_of (follow_rules t address d held)
+      ≡ 16 ∷ 1 ∷ 2 ∷ 3 ∷ 4 ∷ 5 ∷ 6 ∷ 7 ∷ 8 ∷ 9 ∷ 10 ∷ 11 ∷ 12 ∷ 13 ∷ 14 ∷ 15 ∷ []
+  follow_numbers = refl
 
   all_hold : answer_of t address d held ≡ Accepted ↔ AllHold (follow_rules t address d held)
   unfolding answer_of
