@@ -3,15 +3,15 @@ use mathlib.Core.Path.{◌≡◌, refl}
 use mathlib.Core.Logic.{◌↔◌}
 use mathlib.Core.Bool.{false}
 use mathlib.Core.List.{List, [], ◌∷◌}
-use Prim.Native.Nat.{ℕ, ◌+◌, ◌%◌, ◌^◌, ◌≤◌, ◌<◌, zero-le}
+use Prim.Native.Nat.{ℕ, ◌+◌, ◌*◌, ◌%◌, ◌^◌, ◌≤◌, ◌<◌, zero-le}
 use native.Mathlib.Omega.{arith}
 use lib.Dec.{ltb, leb, eqb}
 use lib.ListN.{length}
 use borrow.Author.Tests.{ltb-false, le-ltb, leb-false, lt-leb, eqb-true, eqb-false, ne_eqb}
 use Rattle.lists.specs.Lists.{put}
-use Rattle.lists.specs.Tables.{choose}
-use Rattle.lists.specs.Rules.{AllHold, FirstBroken}
-use Rattle.lists.proofs.Tables.{by_test, none_holds, none_says}
+use Rattle.lists.specs.Tables.{choose, NoneRefuses}
+use Rattle.lists.specs.Rules.{numbers_of, AllHold, FirstBroken}
+use Rattle.lists.proofs.Tables.{by_test, like_by, none_holds, none_says, passes_exactly}
 use Rattle.lists.proofs.Rules.{Judges, judged, judged_unlike, none_answers, all_hold_exactly, first_broken_exactly}
 use Rattle.answers.specs.declared.Made.{Made}
 use Rattle.answers.specs.declared.Made.TheVariants.{Done}
@@ -19,14 +19,15 @@ use Rattle.answers.specs.Numbers.{number_made}
 use Rattle.answers.proofs.Numbers.{made_told}
 use Rattle.wire_rules.specs.declared.Header.{Header}
 use Rattle.wire_rules.specs.Header.{data_size, header_size}
-use Rattle.wire_rules.specs.Write.{bad_form}
+use Rattle.formats.specs.Formats.{size_at}
+use Rattle.wire_rules.specs.Write.{bad_form, GoodForm}
 use Rattle.wire_rules.proofs.Writing.{form_by, by_form, write_judges}
 use Rattle.track_rules.specs.Records.{records_held, record_bytes}
 use Rattle.cutter_rules.specs.Schedule.{Schedule}
 use Rattle.cutter_rules.specs.Largest.{largest_frames}
 use Rattle.cutter_rules.specs.Cut.{cut_schedule, packet_header, cut_packet, bad_cut, bad_number, cut_rows, cut_answer, cut_of, cut_output, GoodCut, GoodNumber, Cuttable, cut_rules}
 use Rattle.cutter_rules.proofs.Scheduling.{divided, equalled}
-use Rattle.cutter_rules.proofs.Sizes.{never_big, packet_formed}
+use Rattle.cutter_rules.proofs.Sizes.{largest_exactly, frame_some, never_big, packet_formed}
 
 -- ---- each row judges its rule
 
@@ -67,6 +68,10 @@ module _ (h : Header) (short : length h.name ≤ 16) (track : List ℕ) (k room 
       (judged_unlike (length track % record_bytes) 0
       (judged (bad_number s (records_held track) k) (by_number s (records_held track) k) (number_by s (records_held track) k)
       (write_judges hk short (data_size hk) room)))
+
+  -- 20, 22 and 24, then the writer's
+  pub cut_numbers : numbers_of number_made (cut_rules h track k room) ≡ 20 ∷ 22 ∷ 24 ∷ 20 ∷ 21 ∷ 22 ∷ 23 ∷ []
+  cut_numbers = refl
 
   -- every rule in a record, and in the paper's order
   cuttable : AllHold (cut_rules h track k room) → Cuttable h track k room
@@ -130,3 +135,26 @@ cut_within h track k out short =
     let size = header_size + data_size (packet_header h (cut_schedule h track) k) in
     by_test (λ b. choose b size 0 ≤ length out) (eqb (number_made a) 0)
     (λ t. ((cut_done_exactly h short track k (length out)).0 (made_told a Done (eqb-true _ _ t))).roomy) (λ t. zero-le)
+
+-- ---- what is not refused
+
+-- a header of good form whose channels have slots, and whose packets are small enough, can be cut
+pub cut_formed : (h : Header) → GoodForm h → h.channels * 3 ≤ 24 → h.frames * (h.channels * size_at h.format) ≤ 1436 → GoodCut h
+cut_formed h g c l = record {
+  formed = g;
+  channels_few = omega arith;
+  no_larger = (largest_exactly h.format h.channels h.frames (frame_some h g)).1 (g.frames_few.1, l);
+}
+
+-- 2,147,483,648 packets are not too many
+pub number_few : (s : Schedule) (frames k : ℕ) → 1 ≤ frames → s.packets ≤ 2147483648 → k < s.packets → GoodNumber s frames k
+number_few s frames k a b c = record { some = a; few = omega arith; below = c }
+
+-- a track that is cut is whole records
+pub cut_whole : (h : Header) (track : List ℕ) (k room : ℕ) → cut_answer h track k room ≡ Done → records_held track * 24 ≡ length track
+unfolding cut_answer
+cut_whole h track k room e =
+    let rows = cut_rows h track k room in
+    let p : NoneRefuses rows = (passes_exactly Done rows (none_says Done number_made rows tt)).0 e in
+    let whole : length track % record_bytes ≡ 0 = like_by _ _ p.1.0 in
+    omega arith

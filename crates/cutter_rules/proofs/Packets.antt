@@ -1,7 +1,7 @@
 -- Packets by a schedule: what the packet writer writes, read back, and the samples are the track's.
-use mathlib.Core.Path.{◌≡◌, refl, sym, ◌∙◌}
+use mathlib.Core.Path.{◌≡◌, refl, sym, ap, ◌∙◌}
 use mathlib.Core.List.{List, ◌++◌}
-use Prim.Native.Nat.{ℕ, ◌+◌, ◌*◌, ◌^◌, ◌≤◌, ◌<◌}
+use Prim.Native.Nat.{ℕ, ◌+◌, ◌*◌, ◌%◌, ◌^◌, ◌≤◌, ◌<◌}
 use native.Mathlib.Nat.{add_assoc, mul_assoc, le_of_eq, mod-lt}
 use lib.Dec.{ltb, lit<}
 use lib.ListN.{length, take, drop, replicate, length-append, length-replicate}
@@ -20,6 +20,8 @@ use Rattle.sample_rules.specs.Bits.{bits_of, sample_of, sent_of}
 use Rattle.sample_rules.proofs.Bits.{sent_nearest, sent_slot}
 use Rattle.wire_rules.specs.declared.Header.{Header}
 use Rattle.wire_rules.specs.Header.{data_size, header_size}
+use Rattle.wire_rules.specs.declared.Read.{Read}
+use Rattle.wire_rules.specs.Names.{kept_name}
 use Rattle.wire_rules.specs.Read.{read_of}
 use Rattle.wire_rules.specs.Write.{header_bytes, write_of, output_of, GoodForm}
 use Rattle.wire_rules.specs.Again.{kept_header, ReadsBack}
@@ -98,6 +100,17 @@ module _ (h : Header) (sixteen : length h.name ≡ 16) (track : List ℕ) (k : �
 
   pub cut_read : read_of (cut_packet h track k) ≡ record { answer = Accepted; header = kept_header (packet_header h s k); size = data_size (packet_header h s k) }
   cut_read = packet_read h s track k sixteen rules.good.formed some few
+
+  -- its header, written out
+  pub cut_header : (read_of (cut_packet h track k)).header ≡ record {
+    rate = h.rate;
+    frames = s.count k;
+    channels = h.channels;
+    format = h.format;
+    name = kept_name h.name;
+    counter = (h.counter + k) % 2 ^ 32;
+  }
+  cut_header = ap (λ (r : Read). r.header) cut_read
 
   -- the packet at the front, and the bytes past it as they were
   pub cut_front : take (header_size + data_size (packet_header h s k)) (cut_output h track k out) ≡ cut_packet h track k

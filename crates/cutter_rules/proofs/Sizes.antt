@@ -1,5 +1,5 @@
 -- The largest N: the most frames that 256 and 1,436 bytes allow.
-use mathlib.Core.Path.{◌≡◌, refl}
+use mathlib.Core.Path.{◌≡◌, refl, sym, ◌∙◌}
 use mathlib.Core.Logic.{◌↔◌}
 use mathlib.Core.Bool.{Bool, false, not}
 use mathlib.Core.List.{[], ◌∷◌}
@@ -8,7 +8,7 @@ use native.Mathlib.Nat.{le-div_iff_mul-le, mul-le-mul, mul_assoc}
 use native.Mathlib.Omega.{arith}
 use borrow.Author.Tests.{not-false}
 use Rattle.lists.specs.Tables.{choose, any, outside}
-use Rattle.lists.proofs.Tables.{by_test, none_holds, inside_by, by_inside}
+use Rattle.lists.proofs.Tables.{by_test, true_false, none_holds, inside_by, by_inside}
 use Rattle.answers.specs.declared.Made.TheVariants.{Done, Form}
 use Rattle.formats.specs.Formats.{MaySend, may_send, size_at}
 use Rattle.formats.proofs.Types.{sent_by, by_sent, sent_read, read_size}
@@ -78,6 +78,14 @@ module _ (format channels : ℕ) where
   largest_done_exactly = (
     by_test (λ b. (answered b).answer ≡ Done → Allowed) refuses (λ t e. absurd (form_done e)) (λ t e. allowed_by t),
     (λ a. rw (by_allowed a)),
+  )
+
+  pub largest_refused_exactly : (largest_of format channels).answer ≡ Form ↔ (Allowed → ⊥)
+  unfolding largest_of
+  largest_refused_exactly = (
+    by_test (λ b. refuses ≡ b → (answered b).answer ≡ Form → Allowed → ⊥) refuses
+        (λ t p e a. true_false (sym p ∙ by_allowed a)) (λ t p e a. form_done (sym e)) refl,
+    (λ z. by_test (λ b. (answered b).answer ≡ Form) refuses (λ t. refl) (λ t. absurd (z (allowed_by t)))),
   )
 
   pub largest_gives : Allowed → largest_of format channels ≡ record { answer = Done; frames = largest_frames format channels }

@@ -3,14 +3,15 @@ use mathlib.Core.Path.{◌≡◌, refl, sym, ap, ◌∙◌}
 use mathlib.Core.Logic.{inl, inr, ⊎_elim}
 use mathlib.Core.Bool.{true, Bool-discrete}
 use mathlib.Core.List.{List, [], ◌∷◌}
-use Prim.Native.Nat.{ℕ, ◌≤◌, ◌<◌}
+use Prim.Native.Nat.{ℕ, ◌≤◌, ◌<◌, min}
 use native.Mathlib.Decide.{ℕ_discrete}
 use native.Mathlib.Nat.{le_of_eq}
 use native.Mathlib.Omega.{arith}
-use lib.ListN.{length}
+use lib.ListN.{length, get_or}
 use Rattle.lists.specs.Lists.{byte}
 use Rattle.answers.specs.declared.Made.TheVariants.{Done}
-use Rattle.answers.specs.Numbers.{number_of}
+use Rattle.answers.specs.declared.Answer.{Answer}
+use Rattle.answers.specs.Numbers.{number_of, count_of}
 use Rattle.answers.proofs.Numbers.{accepts}
 use Rattle.wire_rules.specs.declared.Header.{Header}
 use Rattle.wire_rules.specs.Names.{name_of, same_name}
@@ -25,11 +26,15 @@ use Rattle.cutter_rules.proofs.Scheduling.{held_known, held_once}
 use Rattle.cutter_rules.proofs.Exactly.{cut_answer_is, cut_done_exactly}
 use Rattle.cutter_rules.proofs.Whole.{packets_differ}
 use Rattle.demand.specs.Took.{Took}
-use Rattle.take_rules.specs.Box.{Event, Box, opened, after}
+use Rattle.take_rules.specs.Box.{Event, Box, opened, tells_of, after}
+use Rattle.take_rules.specs.Tally.{cleared}
+use Rattle.take_rules.specs.History.{answers_after, told_so}
+use Rattle.take_rules.proofs.Counting.{box_counts}
+use Rattle.demand.specs.Answers.{Answered}
 use Rattle.demand.specs.Sender.{Sender, our_sender, Heard, Audio, Comes, NoOtherAudio, Each, which_of, accepted_in, Arrives, Arrive, RecordedOf}
 use Rattle.demand.proofs.Accepting.{Settled, Ordered}
 use Rattle.demand.proofs.Sends.{Sends}
-use Rattle.demand.proofs.Steps.{Good, good, shows}
+use Rattle.demand.proofs.Steps.{Good, good, answered, shows}
 use Rattle.demand.proofs.Sent.{our_sends}
 use Rattle.demand.proofs.Determined.{recorded_one}
 
@@ -85,6 +90,16 @@ module _ (h : Header) (sixteen : length h.name ≡ 16) (sent : List ℕ) (sent-b
     -- after every history
     pub recorded : (past : List Event) → Each (Comes sender) past → RecordedOf sender (took past) track (box past).track
     recorded past w = shows sends track (took past) (box past) (each past w)
+
+    -- what the box answers to each event, in the sender's terms
+    pub answered_along : (past : List Event) → Each (Comes sender) past → (e : Event) → Comes sender e
+        → Answered sender.schedule (records_held track) (took past) (Heard sender e) (tells_of (box past) e)
+    answered_along past w e c = answered sends track (took past) (box past) e (Heard sender e) (each past w) (arrives e c)
+
+    -- and from a cleared tally, its counts are the numbers of those answers
+    pub tallied_along : tally ≡ cleared → (past : List Event) (a : Answer)
+        → get_or (box past).tally.counts (count_of (number_of a)) 0 ≡ min 4294967295 (told_so (number_of a) (answers_after (box []) past))
+    tallied_along z past = box_counts (box []) z past
 
     -- what was accepted is settled by the history
     pub accepted_settled : (past : List Event) → Each (Comes sender) past → Settled (took past)

@@ -10,6 +10,10 @@ use native.Mathlib.Decide.{dec_lt}
 use native.Mathlib.Omega.{arith}
 use lib.ListN.{length}
 use Rattle.lists.proofs.Tables.{true_false}
+use Rattle.lists.specs.Rules.{FirstBroken}
+use Rattle.answers.specs.declared.Answer.{Answer}
+use Rattle.answers.specs.declared.Answer.TheVariants.{Shape, Late, Beyond}
+use Rattle.answers.specs.Numbers.{number_of}
 use Rattle.formats.proofs.Types.{sent_read}
 use Rattle.wire_rules.specs.declared.Header.{Header}
 use Rattle.wire_rules.specs.Names.{name_of, kept_name, GoodName}
@@ -19,9 +23,10 @@ use Rattle.take_rules.specs.declared.Take.{Take}
 use Rattle.take_rules.specs.declared.Decision.TheVariants.{Ahead}
 use Rattle.take_rules.specs.Counter.{newer}
 use Rattle.take_rules.specs.Line.{distance}
-use Rattle.take_rules.specs.Take.{GoodShape, GoodLine, unbegun}
+use Rattle.take_rules.specs.Take.{GoodShape, GoodLine, GoodState, unbegun}
 use Rattle.take_rules.proofs.Wraps.{newer_exactly}
-use Rattle.take_rules.specs.Follow.{decided, place_of, followed_by, OurStream, SameShape, Newer, Followable}
+use Rattle.take_rules.proofs.Exactly.{line_broken}
+use Rattle.take_rules.specs.Follow.{decided, place_of, skipped_of, answer_of, followed_by, OurStream, SameShape, Newer, line_rules, Followable}
 use Rattle.cutter_rules.specs.Schedule.{Schedule}
 use Rattle.cutter_rules.proofs.Scheduling.{from_rises}
 use Rattle.demand.specs.Took.{Took, Joins, hears}
@@ -167,48 +172,116 @@ module _ {x : Sender} (w : Sends x) where
     read : (F : Header → Type 0) → F (read_header x k) → F (header_of d)
     read F = subst F (sym header)
 
-    -- the rules, given what the take keeps
-    by_rules : (t : Take) → Ours x t → (t.begun ≡ true → GoodShape t.shape) → (t.begun ≡ true → GoodLine t.line) → (t.begun ≡ true → SameShape t (read_header x k))
-        → (t.begun ≡ true → Newer t (read_header x k)) → place_of t (read_header x k) + s.count k ≤ R → Followable t x.address d R
-    by_rules t our g q e n f = record {
-      good_state = record { named = rw our.name kept_good; shaped = g; lined = q };
-      readable = p.readable;
-      ours = record { our_name = rw our.name names; our_address = sym our.address };
-      channels_few = read (λ y. y.channels ≤ 8) w.channels_few;
-      same_shape = read (λ y. t.begun ≡ true → SameShape t y) e;
-      is_newer = read (λ y. t.begun ≡ true → Newer t y) n;
-      fits = read (λ y. place_of t y + y.frames ≤ R) f;
-    }
+    channels_few : (header_of d).channels ≤ 8
+    channels_few = read (λ y. y.channels ≤ 8) w.channels_few
 
-    not_begun : false ≡ true → ⊥
-    not_begun e = true_false (sym e)
+    not_begun : {P : Type 0} → false ≡ true → P
+    not_begun e = absurd (true_false (sym e))
 
     module _ {A : Took} (o : Ordered A) {t : Take} (follows : Follows x A t) where
-      frames_few : (st : Stands x A t) → st.newest < k → (1 ≤ s.count st.earliest) × (s.count st.earliest ≤ 256)
-      frames_few st u = rw (size_is o st k l u) w.formed.frames_few
+      -- N of a begun take is a packet's
+      frames_few : (st : Stands x A t) → (1 ≤ s.count st.earliest) × (s.count st.earliest ≤ 256)
+      frames_few st =
+          let b : st.earliest < s.packets = omega (arith, earliest_le o st k l, st.sent) in
+          (w.divides.some _ b, omega (arith, w.equal.no_larger _ b, w.formed.frames_few.1))
+
+      shaped : (st : Stands x A t) → GoodShape t.shape × GoodLine t.line
+      shaped st =
+          let f = w.formed in
+          rw st.is
+          (record { channels_few = (f.channels_few.0, w.channels_few); rated = f.rated; typed = sent_read _ f.typed }, record { frames_few = frames_few st })
+
+      state : GoodState t
+      state =
+          let kept : t.begun ≡ true → GoodShape t.shape × GoodLine t.line = λ e. ⊎_elim (λ y. not_begun (rw y.1 at e)) shaped follows in
+          record { named = rw (ours x follows).name kept_good; shaped = λ e. (kept e).0; lined = λ e. (kept e).1 }
+
+      our_stream : OurStream t.who x.address d
+      our_stream = let our = ours x follows in record { our_name = rw our.name names; our_address = sym our.address }
+
+      -- 13 asks no more of a packet than that it is not longer than the first
+      same_shape : (st : Stands x A t) → s.count k ≤ s.count st.earliest → SameShape t (read_header x k)
+      same_shape st m = rw st.is (record { same_rate = refl; same_channels = refl; same_format = refl; no_longer = m })
+
+      -- the rules, of the header that was sent
+      by_rules : (t.begun ≡ true → SameShape t (read_header x k)) → (t.begun ≡ true → Newer t (read_header x k))
+          → place_of t (read_header x k) + s.count k ≤ R → Followable t x.address d R
+      by_rules e n f = record {
+        good_state = state;
+        readable = p.readable;
+        ours = our_stream;
+        channels_few = channels_few;
+        same_shape = read (λ y. t.begun ≡ true → SameShape t y) e;
+        is_newer = read (λ y. t.begun ≡ true → Newer t y) n;
+        fits = read (λ y. place_of t y + y.frames ≤ R) f;
+      }
 
       pub followed : Joins s R A k → Followable t x.address d R
       followed j = ⊎_elim
-          (λ y. rw y.1
-          (by_rules (unbegun x.header.name x.address) (record { name = refl; address = refl }) (λ e. absurd (not_begun e)) (λ e. absurd (not_begun e)) (λ e. absurd (not_begun e))
-          (λ e. absurd (not_begun e)) (omega (arith, j.fits.alone))))
+          (λ y. by_rules (λ e. not_begun (rw y.1 at e)) (λ e. not_begun (rw y.1 at e)) (rw y.1 (omega (arith, j.fits.alone))))
           (λ st.
           let u : st.newest < k = j.newer st.newest st.is_in in
           let a = away_is o st k l u in
           let b = st.sent in
-          let f = w.formed in
-          by_rules t (ours x follows)
-          (λ e. rw st.is (record { channels_few = (f.channels_few.0, w.channels_few); rated = f.rated; typed = sent_read _ f.typed }))
-          (λ e. rw st.is (record { frames_few = frames_few st u }))
-          (λ e. rw st.is (record {
-            same_rate = refl;
-            same_channels = refl;
-            same_format = refl;
-            no_longer = omega (arith, size_is o st k l u, w.equal.no_larger k l);
-          }))
+          by_rules (λ e. same_shape st (omega (arith, size_is o st k l u, w.equal.no_larger k l)))
           (λ e. (omega arith, omega (arith, w.few)))
           (omega (arith, place_is o st k l u, j.fits.behind st.earliest st.is_earliest)))
           follows
+
+      -- ---- refusals
+
+      line_refused : (a : Answer) → (number_of a ≡ 0 → ⊥) → FirstBroken (line_rules t (read_header x k) R) a
+          → number_of (answer_of t x.address d R) ≡ number_of a
+      line_refused a z f =
+          let short = name_short x follows w.short in
+          ap number_of (line_broken t x.address d R short state p.readable our_stream channels_few a (λ e. z (ap number_of e))
+          (read (λ y. FirstBroken (line_rules t y R) a) f))
+
+      module _ (st : Stands x A t) where
+        begun : t.begun ≡ true
+        begun = rw st.is
+
+        -- not newer
+        pub late_refused : k ≤ st.newest → s.count k ≤ s.count st.earliest → number_of (answer_of t x.address d R) ≡ 14
+        late_refused m q =
+            line_refused Late (λ z. omega arith)
+            (inr ((λ e. same_shape st q), inl (refl, (λ n. omega (arith, is_newer o st k l (n begun), m)))))
+
+        -- longer than the first
+        pub longer_refused : s.count st.earliest < s.count k → number_of (answer_of t x.address d R) ≡ 13
+        longer_refused q =
+            let n : t.line.n ≡ s.count st.earliest = rw st.is in
+            line_refused Shape (λ z. omega arith) (inl (refl, (λ e. omega (arith, (e begun).no_longer, n, q))))
+
+        -- newer, and past the end
+        pub beyond_refused : st.newest < k → ((s.from k - s.from st.earliest) + s.count k ≤ R → ⊥) → number_of (answer_of t x.address d R) ≡ 15
+        beyond_refused u z =
+            let a = away_is o st k l u in
+            let b = st.sent in
+            line_refused Beyond (λ y. omega arith)
+            (inr (
+              (λ e. same_shape st (omega (arith, size_is o st k l u, w.equal.no_larger k l))),
+              inr ((λ e. (omega arith, omega (arith, w.few))), inl (refl, (λ f. z (omega (arith, f, place_is o st k l u))))),
+            ))
+
+      -- the first, and longer than the track
+      pub first_refused : t ≡ unbegun x.header.name x.address → (s.count k ≤ R → ⊥) → number_of (answer_of t x.address d R) ≡ 15
+      first_refused e z =
+          let n : t.begun ≡ false = rw e in
+          let f : place_of t (read_header x k) ≡ 0 = rw n in
+          line_refused Beyond (λ y. omega arith)
+          (inr (
+            (λ b. not_begun (sym n ∙ b)),
+            inr ((λ b. not_begun (sym n ∙ b)), inl (refl, (λ g. z (omega (arith, g, f))))),
+          ))
+
+      -- ---- acceptance
+
+      pub skipped_first : t ≡ unbegun x.header.name x.address → skipped_of t (header_of d) ≡ 0
+      skipped_first e = rw e
+
+      pub skipped_next : (st : Stands x A t) → st.newest < k → skipped_of t (header_of d) ≡ k - st.newest - 1
+      skipped_next st u = read (λ y. skipped_of t y ≡ k - st.newest - 1) (rw (decided_is o st k l u) (rw (away_is o st k l u)))
 
       pub joined : Followable t x.address d R → Joins s R A k
       joined f =

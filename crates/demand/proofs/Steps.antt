@@ -22,17 +22,18 @@ use Rattle.track_rules.specs.Records.{records_held, slot_number, laid_of, packet
 use Rattle.track_rules.proofs.Laws.{laid_length, laid_slot, slot_before, slot_after, laid_after, cleared_length, cleared_slot, cleared_rest, silence}
 use Rattle.take_rules.specs.declared.Tally.{Tally}
 use Rattle.take_rules.specs.Take.{unbegun}
-use Rattle.take_rules.specs.Follow.{place_of, followed_by, answer_of, laid_by, Followable}
-use Rattle.take_rules.proofs.Exactly.{follow_accepted_exactly, follow_refused, follow_accepted, refused_track, follow_track, open_accepted}
+use Rattle.take_rules.specs.Follow.{place_of, skipped_of, followed_by, answer_of, laid_by, Followable}
+use Rattle.take_rules.proofs.Exactly.{told_answer, follow_accepted_exactly, follow_refused, follow_accepted, refused_track, follow_track, open_accepted}
 use Rattle.cutter_rules.specs.Schedule.{Schedule}
 use Rattle.cutter_rules.proofs.Scheduling.{apart, from_rises}
-use Rattle.demand.specs.Took.{Took, Joining, nothing, Joins, hears, took_after}
-use Rattle.take_rules.specs.Box.{Event, Box, opened, follows, after}
+use Rattle.demand.specs.Took.{Took, Joining, nothing, Fits, Joins, hears, took_after}
+use Rattle.take_rules.specs.Box.{Event, Box, opened, tells_of, follows, after}
+use Rattle.demand.specs.Answers.{Tells, Newest, Answered}
 use Rattle.demand.specs.Sender.{Sender, Audio, IsPacket, Arrives, Arrive, RecordedOf}
 use Rattle.demand.proofs.Accepting.{Settled, Ordered, nothing_settled, nothing_ordered, JoinsAlone, NoneJoins, hears_settled, hears_ordered}
 use Rattle.demand.proofs.Paint.{Within, Paints, Laid, paint, repaint, unpainted}
 use Rattle.demand.proofs.Sends.{ReadAs, Sends}
-use Rattle.demand.proofs.Standing.{Follows, follows_same, name_short, same_name, same_address, followed, joined, next, placed}
+use Rattle.demand.proofs.Standing.{Stands, Follows, follows_same, name_short, same_name, same_address, followed, late_refused, longer_refused, beyond_refused, first_refused, skipped_first, skipped_next, joined, next, placed}
 
 -- ---- what following gives, of a box
 
@@ -262,6 +263,103 @@ module _ {x : Sender} (w : Sends x) (track₀ : List ℕ) (A : Took) (b : Box) (
             let z : answer b e ≡ Accepted → ⊥ = λ a. q (ap number_of a) in
             refused_good z (λ m a y. z (accepted k p (rw (p.only m a) at y)))
       ]
+
+  -- ---- what is told
+
+  refused_told : (n : ℕ) → (n ≡ 0 → ⊥) → number_of (answer b e) ≡ n → Tells n 0 0 0 (tells_of b e)
+  refused_told n z q =
+      rw (tells_of, follow_refused b.take e.address e.datagram b.track (λ a. z (sym q ∙ ap number_of a))) (q, refl, refl, refl)
+
+  same_number : number_of (tells_of b e).answer ≡ number_of (answer b e)
+  same_number = ap number_of (told_answer b.take e.address e.datagram b.track)
+
+  other_told : (answer b e ≡ Accepted → ⊥) → (number_of (tells_of b e).answer ≡ 0 → ⊥) × Tells (number_of (tells_of b e).answer) 0 0 0 (tells_of b e)
+  other_told z =
+      let n : number_of (tells_of b e).answer ≡ 0 → ⊥ = λ q. z (accepts (answer b e) _ refl (sym same_number ∙ q)) in
+      (n, refused_told (number_of (tells_of b e).answer) n (sym same_number))
+
+  module _ (k : ℕ) (p : IsPacket x is e k) where
+    reads_as : ReadAs x k e.datagram
+    reads_as = reads_now k p
+
+    accepted_told : joins A k → (place' skipped : ℕ) → place b e ≡ place' → skipped_of b.take (header_of e.datagram) ≡ skipped
+        → Tells 0 place' (s.count k) skipped (tells_of b e)
+    accepted_told j place' skipped q r =
+        rw (tells_of, follow_accepted b.take e.address e.datagram b.track (accepted k p j)) (refl, q, ap (λ (y : Header). y.frames) reads_as.header, r)
+
+    -- a number that the box gives to the sender's packets, in the terms of its opening
+    number_told_now : (n : ℕ) → (n ≡ 0 → ⊥) → number_of (answer_of b.take x.address e.datagram R) ≡ n → Tells n 0 0 0 (tells_of b e)
+    number_told_now n z q = refused_told n z (rw (held, p.heard.from) q)
+
+    -- whatever is said of packet k holds of the packet that the event is
+    at_packet : (P : ℕ → Type 0) → P k → (j : ℕ) → is j → P j
+    at_packet P q j i = subst P (sym (p.only j i)) q
+
+    first_told : joins A k → ((j : ℕ) → A.taken j → ⊥) → Tells 0 0 (s.count k) 0 (tells_of b e)
+    first_told j none =
+        accepted_told j 0 0 (placed_at k p j k (inr (none, p.this, j)) ∙ omega arith)
+        (⊎_elim (λ y. skipped_first w reads_as R g.ordered g.stands y.1) (λ (st : Stands x A b.take). absurd (none st.newest st.is_in)) g.stands)
+
+    next_told : (k₀ m : ℕ) → joins A k → A.earliest k₀ → Newest A m → Tells 0 (s.from k - s.from k₀) (s.count k) (k - m - 1) (tells_of b e)
+    next_told k₀ m j a new =
+        accepted_told j (s.from k - s.from k₀) (k - m - 1) (placed_at k p j k₀ (inl a))
+        (⊎_elim (λ y. absurd (y.0 m new.0))
+        (λ (st : Stands x A b.take).
+        skipped_next w reads_as R g.ordered g.stands st (j.newer st.newest st.is_in) ∙ omega (arith, new.1 st.newest st.is_in, st.is_newest m new.0))
+        g.stands)
+
+    beyond_told : ((m : ℕ) → A.taken m → m < k) → (Fits s R A k → ⊥) → Tells 15 0 0 0 (tells_of b e)
+    beyond_told newer z = number_told_now 15 (λ q. omega arith) (⊎_elim
+        (λ y. first_refused w reads_as R g.ordered g.stands y.1
+        (λ f. z (record { alone = f; behind = λ k₀ a. absurd (y.0 k₀ (g.ordered.is_taken k₀ a)) })))
+        (λ (st : Stands x A b.take).
+        beyond_refused w reads_as R g.ordered g.stands st (newer st.newest st.is_in)
+        (λ f. z (record { alone = omega arith; behind = λ k₀ a. rw (g.ordered.is_one k₀ st.earliest a st.is_earliest) f })))
+        g.stands)
+
+    -- a packet that is not newer, by what the first one is
+    module _ (k₀ m : ℕ) (a : A.earliest k₀) (t : A.taken m) (l : k ≤ m) where
+      by_first : (n : ℕ) → (n ≡ 0 → ⊥)
+          → ((st : Stands x A b.take) → st.earliest ≡ k₀ → k ≤ st.newest → number_of (answer_of b.take x.address e.datagram R) ≡ n)
+          → Tells n 0 0 0 (tells_of b e)
+      by_first n z f = number_told_now n z (⊎_elim
+          (λ y. absurd (y.0 m t))
+          (λ (st : Stands x A b.take). f st (g.ordered.is_one st.earliest k₀ st.is_earliest a) (omega (arith, l, st.is_newest m t)))
+          g.stands)
+
+      late_told : s.count k ≤ s.count k₀ → Tells 14 0 0 0 (tells_of b e)
+      late_told q = by_first 14 (λ z. omega arith) (λ st f n. late_refused w reads_as R g.ordered g.stands st n (rw f q))
+
+      longer_told : s.count k₀ < s.count k → Tells 13 0 0 0 (tells_of b e)
+      longer_told q = by_first 13 (λ z. omega arith) (λ st f n. longer_refused w reads_as R g.ordered g.stands st (rw f q))
+
+    packet_answered : Answered s R A is (tells_of b e)
+    packet_answered = record {
+      joins = (
+        (λ q. (k, (p.this, joins_now k p (accepts (answer b e) _ refl (sym same_number ∙ q))))),
+        (λ y. same_number ∙ ap number_of (accepted k p (rw (p.only y.0 y.1.0) at y.1.1))),
+      );
+      first = at_packet (λ j. joins A j → ((m : ℕ) → A.taken m → ⊥) → Tells 0 0 (s.count j) 0 (tells_of b e)) first_told;
+      next = λ j k₀ m i. at_packet
+          (λ n. joins A n → A.earliest k₀ → Newest A m → Tells 0 (s.from n - s.from k₀) (s.count n) (n - m - 1) (tells_of b e)) (next_told k₀ m) j i;
+      beyond = at_packet (λ j. ((m : ℕ) → A.taken m → m < j) → (Fits s R A j → ⊥) → Tells 15 0 0 0 (tells_of b e)) beyond_told;
+      late = λ j k₀ m i a t. at_packet (λ n. n ≤ m → s.count n ≤ s.count k₀ → Tells 14 0 0 0 (tells_of b e)) (late_told k₀ m a t) j i;
+      longer = λ j k₀ m i a t. at_packet (λ n. n ≤ m → s.count k₀ < s.count n → Tells 13 0 0 0 (tells_of b e)) (longer_told k₀ m a t) j i;
+      other = λ n. absurd (n k p.this);
+    }
+
+  pub answered : Arrives x is e → Answered s R A is (tells_of b e)
+  answered = ⊎_elim (λ y. packet_answered y.0 y.1) (λ n.
+      let none = other_told (stranger n.1) in
+      record {
+        joins = ((λ q. absurd (none.0 q)), (λ y. absurd (n.0 y.0 y.1.0)));
+        first = λ k i. absurd (n.0 k i);
+        next = λ k k₀ m i. absurd (n.0 k i);
+        beyond = λ k i. absurd (n.0 k i);
+        late = λ k k₀ m i. absurd (n.0 k i);
+        longer = λ k k₀ m i. absurd (n.0 k i);
+        other = λ i. none;
+      })
 
 -- ---- every history
 

@@ -1,26 +1,28 @@
 -- Following and opening answer as the paper's rules say, and what comes with the answer.
 use mathlib.Core.Path.{◌≡◌, refl, sym, ap, ◌∙◌}
-use mathlib.Core.Logic.{◌↔◌}
+use mathlib.Core.Logic.{◌↔◌, inr}
 use mathlib.Core.Bool.{Bool, true, false, not, ◌&&◌}
 use mathlib.Core.List.{List, [], ◌∷◌}
 use Prim.Native.Nat.{ℕ, ◌+◌, ◌≤◌}
 use native.Mathlib.Omega.{arith}
 use lib.Dec.{ltb}
-use lib.ListN.{length}
+use lib.ListN.{length, replicate}
 use borrow.Author.Tests.{ltb-false, le-ltb, eq-eqb, not-false}
 use Rattle.lists.specs.Tables.{choose, row, any, unlike, outside, NoneRefuses}
-use Rattle.lists.specs.Rules.{rule, AllHold, FirstBroken}
+use Rattle.lists.specs.Rules.{rule, numbers_of, AllHold, FirstBroken}
 use Rattle.lists.proofs.Tables.{by_test, true_false, like_by, none_holds, inside_by, by_inside, none_says, passes_exactly}
 use Rattle.lists.proofs.Rules.{Judges, judged, judged_less, none_answers, all_hold_exactly, first_broken_exactly}
 use Rattle.answers.specs.declared.Answer.{Answer}
 use Rattle.answers.specs.declared.Answer.TheVariants.{Accepted, Name, OtherStream, State}
 use Rattle.answers.specs.Numbers.{number_of}
 use Rattle.answers.proofs.Numbers.{refusal_number}
-use Rattle.formats.specs.Formats.{MayRead, may_read}
-use Rattle.formats.proofs.Types.{read_by, by_read}
+use Rattle.formats.specs.Formats.{MayRead, MaySend, may_read}
+use Rattle.formats.proofs.Types.{read_by, by_read, sent_read}
 use Rattle.wire_rules.specs.declared.Header.{Header}
-use Rattle.wire_rules.specs.Names.{good_name, same_name, GoodName}
+use Rattle.wire_rules.specs.Names.{good_name, kept_name, same_name, GoodName}
 use Rattle.wire_rules.specs.Header.{header_size, name_field, header_of, data_size}
+use Rattle.wire_rules.specs.Read.{Readable}
+use Rattle.wire_rules.specs.Write.{GoodForm}
 use Rattle.wire_rules.proofs.Names.{good_exactly, bad_exactly, same_exactly, zeros_bad}
 use Rattle.wire_rules.proofs.Reading.{front_judges, audio_judges}
 use Rattle.track_rules.specs.Records.{records_held, cleared_of}
@@ -34,7 +36,7 @@ use Rattle.take_rules.specs.declared.Tally.{Tally}
 use Rattle.take_rules.specs.Counter.{newer}
 use Rattle.take_rules.specs.Take.{bad_shape, bad_line, bad_state, GoodShape, GoodLine, GoodState, no_take, unbegun, open_of, opened_track}
 use Rattle.take_rules.specs.Line.{is_late, distance}
-use Rattle.take_rules.specs.Follow.{place_of, skipped_of, other_stream, other_shape, changed_shape, late, take_rows, packet_rows, follow_rows, answer_of, followed_of, followed_by, laid_by, followed_track, OurStream, SameShape, Newer, take_rules, packet_rules, follow_rules, Followable}
+use Rattle.take_rules.specs.Follow.{place_of, skipped_of, other_stream, other_shape, changed_shape, late, take_rows, packet_rows, follow_rows, answer_of, followed_of, followed_by, laid_by, followed_track, OurStream, SameShape, Newer, line_rules, take_rules, packet_rules, follow_rules, Followable}
 use Rattle.take_rules.specs.Tally.{raised_of, tallied_of}
 use Rattle.take_rules.proofs.Wraps.{newer_exactly}
 
@@ -167,6 +169,11 @@ module _ (t : Take) (address : ℕ) (d : List ℕ) (held : ℕ) (short : length 
       (front_judges d (row OtherStream (other_stream t.who address d) ∷ packet_rows t d held)
       (rule OtherStream (OurStream t.who address d) (packet_rules t d held)) stream_judges)
 
+  -- the table's numbers, in its order
+  pub follow_numbers : numbers_of number_of (follow_rules t address d held)
+      ≡ 16 ∷ 1 ∷ 2 ∷ 3 ∷ 4 ∷ 5 ∷ 6 ∷ 7 ∷ 8 ∷ 9 ∷ 10 ∷ 11 ∷ 12 ∷ 13 ∷ 14 ∷ 15 ∷ []
+  follow_numbers = refl
+
   all_hold : answer_of t address d held ≡ Accepted ↔ AllHold (follow_rules t address d held)
   unfolding answer_of
   all_hold =
@@ -245,6 +252,14 @@ module _ (t : Take) (address : ℕ) (d : List ℕ) (held : ℕ) (short : length 
   unfolding answer_of
   follow_refused_exactly = first_broken_exactly Accepted (follow_rows t address d held) (follow_rules t address d held) judges
 
+  -- where the take is sound, and the datagram one of its stream that reading accepts, the rules left are 13 to 15
+  pub line_broken : GoodState t → Readable d → OurStream t.who address d → h.channels ≤ 8 → (a : Answer) → (a ≡ Accepted → ⊥)
+      → FirstBroken (line_rules t h held) a → answer_of t address d held ≡ a
+  line_broken g r o c a z f =
+      let audio : FirstBroken (packet_rules t d held) a =
+      inr (r.audio, inr (r.pcm, inr (r.unreserved, inr (r.rated, inr (r.typed, inr (r.exact, inr (c, f))))))) in
+      (follow_refused_exactly a z).1 (inr (g, inr (r.not_short, inr (r.not_long, inr (r.marked, inr (r.named, inr (o, audio)))))))
+
 -- what rows 11 to 15 let pass, whatever the take's name
 pub record Passed (t : Take) (d : List ℕ) (held : ℕ) : Type 0 where
   pub typed : MayRead (header_of d).format
@@ -273,6 +288,11 @@ accepted_passed t address d held e =
 module _ (t : Take) (address : ℕ) (d track : List ℕ) where
   abbrev answer : Answer
   answer = answer_of t address d (records_held track)
+
+  -- what is told is that answer
+  pub told_answer : (followed_of t address d track).told.answer ≡ answer
+  unfolding followed_of
+  told_answer = refl
 
   -- a refusal leaves the track
   pub refused_track : (answer ≡ Accepted → ⊥) → followed_track t address d track ≡ track
@@ -340,3 +360,45 @@ module _ (name : List ℕ) (address : ℕ) (short : length name ≤ 16) where
       → (open_of name address ≡ record { answer = Accepted; take = unbegun name address }) × (opened_track name track ≡ cleared_of track)
   unfolding open_of opened_track
   open_accepted g track = let b = (good_exactly name short).1 g in (rw b, rw b)
+
+  -- the takes that opening gives, written out
+  pub opened_take : GoodName name → (open_of name address).take ≡ record {
+    who = record { name = kept_name name; address = address };
+    begun = false;
+    shape = record { rate = 0; channels = 0; format = 0 };
+    line = record { n = 0; newest = 0; place = 0 };
+  }
+  opened_take g = ap (λ (o : Opened). o.take) (open_accepted g []).0
+
+  pub closed_take : (GoodName name → ⊥) → (open_of name address).take ≡ record {
+    who = record { name = replicate 16 0; address = 0 };
+    begun = false;
+    shape = record { rate = 0; channels = 0; format = 0 };
+    line = record { n = 0; newest = 0; place = 0 };
+  }
+  closed_take z = ap (λ (o : Opened). o.take) (open_refused z []).0
+
+-- 16 asks of a begun take what 20 asks of a header of that shape, and 8 channels at most
+abbrev header_of_take : Take → Header
+header_of_take t = record {
+  rate = t.shape.rate;
+  frames = t.line.n;
+  channels = t.shape.channels;
+  format = t.shape.format;
+  name = t.who.name;
+  counter = t.line.newest;
+}
+
+pub state_formed : (t : Take) → t.begun ≡ true → MaySend t.shape.format → GoodState t ↔ (GoodForm (header_of_take t) × (t.shape.channels ≤ 8))
+state_formed t b m = (
+  (λ g.
+      let s = g.shaped b in
+      let n = (g.lined b).frames_few in
+      let c = s.channels_few in
+      (record { rated = s.rated; typed = m; frames_few = n; channels_few = (c.0, omega (arith, c.1)); named = g.named }, c.1)),
+  (λ f. record {
+    named = f.0.named;
+    shaped = λ _. record { channels_few = (f.0.channels_few.0, f.1); rated = f.0.rated; typed = sent_read _ f.0.typed };
+    lined = λ _. record { frames_few = f.0.frames_few };
+  }),
+)

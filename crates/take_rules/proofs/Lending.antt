@@ -9,9 +9,9 @@ use Rattle.answers.specs.Numbers.{number_of, count_of}
 use Rattle.take_rules.specs.declared.Tally.{Tally}
 use Rattle.take_rules.specs.Follow.{followed_of}
 use Rattle.take_rules.specs.Tally.{cleared, tallied_of}
-use Rattle.take_rules.specs.History.{Call, answer_to, tally_after, answered_so, sum}
+use Rattle.take_rules.specs.History.{Call, answer_to, tally_after, answered_so, sum, Few}
 use Rattle.take_rules.specs.Lending.{LeavesAfter}
-use Rattle.take_rules.proofs.Counting.{tally_counts, tally_below, tally_sum}
+use Rattle.take_rules.proofs.Counting.{tally_counts, tally_below, tally_sum, tally_sum_few}
 
 module _ (c : Call) where
   -- what a lent call answers, with the tally that it leaves, is all that the call by value gives
@@ -44,3 +44,6 @@ module _ (calls : List Call) (exit : Tally) (h : LeavesAfter cleared calls exit)
 
   pub lent_sum : length calls ≤ 4294967295 → sum exit.counts ≡ length calls
   lent_sum few = rw (lent_after calls cleared exit h) (tally_sum calls few)
+
+  pub lent_sum_few : Few (λ n. answered_so n calls) → sum exit.counts ≡ length calls
+  lent_sum_few few = rw (lent_after calls cleared exit h) (tally_sum_few calls few)

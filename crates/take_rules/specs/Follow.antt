@@ -139,6 +139,14 @@ take_rules t h held =
     (rule Beyond (place_of t h + h.frames ≤ held)
     done)))
 
+-- 13 to 15 of these
+abbrev pub line_rules : Take → Header → ℕ → Rules Answer
+line_rules t h held =
+    rule Shape (t.begun ≡ true → SameShape t h)
+    (rule Late (t.begun ≡ true → Newer t h)
+    (rule Beyond (place_of t h + h.frames ≤ held)
+    done))
+
 -- 6 to 15
 abbrev pub packet_rules : Take → List ℕ → ℕ → Rules Answer
 packet_rules t d held = audio_rules d (take_rules t (header_of d) held)

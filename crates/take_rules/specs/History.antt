@@ -1,5 +1,5 @@
 -- The tally over a history of following calls (document 01, "Following a take").
-use Rattle.std.specs.Prelude.{ℕ, suc, ◌+◌, List, [], ◌∷◌, eqb}
+use Rattle.std.specs.Prelude.{ℕ, suc, ◌+◌, ◌≤◌, List, [], ◌∷◌, eqb}
 use Rattle.lists.specs.Tables.{choose}
 use Rattle.answers.specs.declared.Answer.{Answer}
 use Rattle.answers.specs.Numbers.{number_of}
@@ -8,6 +8,7 @@ use Rattle.take_rules.specs.declared.Take.{Take}
 use Rattle.take_rules.specs.declared.Tally.{Tally}
 use Rattle.take_rules.specs.Follow.{answer_of}
 use Rattle.take_rules.specs.Tally.{tallied_of}
+use Rattle.take_rules.specs.Box.{Box, Event, tells_of, after}
 
 -- what a following call is given, the tally apart: any take, address, datagram and track
 pub record Call : Type 0 where
@@ -34,3 +35,19 @@ answered_so n (c ∷ calls) = choose (eqb (number_of (answer_to c)) n) (suc (ans
 abbrev pub sum : List ℕ → ℕ
 sum [] = 0
 sum (n ∷ rest) = n + sum rest
+
+-- no answer came more often than its count can tell, where each number came so many times
+abbrev pub Few : (ℕ → ℕ) → Type 0
+Few times = (a : Answer) → times (number_of a) ≤ 4294967295
+
+-- ---- one box
+
+-- what it answered to the events of a history, the latest first
+abbrev pub answers_after : Box → List Event → List Answer
+answers_after b [] = []
+answers_after b (e ∷ past) = (tells_of (after b past) e).answer ∷ answers_after b past
+
+-- how many of these have the paper's number n
+abbrev pub told_so : ℕ → List Answer → ℕ
+told_so n [] = 0
+told_so n (a ∷ past) = choose (eqb (number_of a) n) (suc (told_so n past)) (told_so n past)

@@ -3,7 +3,8 @@ pub mod Take
 pub mod Line
 pub mod Follow
 pub mod Tally
-pub mod History
-pub mod Lending
 pub mod Laid
 pub mod Box
+pub mod Places
+pub mod History
+pub mod Lending
