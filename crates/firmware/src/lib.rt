@@ -13,7 +13,7 @@ ghost use Rattle.take_rules.specs.Tally.{tally_of, cleared, raised_of};
 ghost use Rattle.cutter_rules.specs.Largest.{largest_of};
 ghost use Rattle.cutter_rules.specs.Cut.{cut_of, cut_output};
 ghost use Rattle.kept.specs.Kept.{take_bytes, take_of};
-ghost use Rattle.firmware.specs.Face.{fields_of, header_from, followed_for, laid_for, kept_after, count_for};
+ghost use Rattle.firmware.specs.Face.{fields_of, header_from, followed_for, laid_for, kept_after, count_for, state_for, shape_for};
 
 use answers::Answer;
 use wire_rules::Header;
@@ -240,5 +240,27 @@ pub fn tashmirok_follow(
     kept::store_followed(h, place, kept);
     take::follow::lay(h.format, h.frames, h.channels, datagram, place, track);
     raise(tally, answer);
+    0
+}
+
+// What the first packet accepted has fixed: rate index, channels, data type and N.
+pub fn tashmirok_shape(kept: &[u8; 40], shape: &mut [u32; 4]) -> u8
+    ensures answer { result ≡ number_of (state_for kept.now) }
+    ensures shape { shape.new ≡ shape_for kept.now }
+{
+    let t = kept::load(kept);
+    let bytes = &kept[..];
+    *shape = [0; 4];
+    if take::judge::bad_state(&bytes[..16], t) {
+        return answers::number(Answer::State);
+    }
+    if t.begun {
+        *shape = [
+            t.shape.rate as u32,
+            t.shape.channels as u32,
+            t.shape.format as u32,
+            t.line.n as u32,
+        ];
+    }
     0
 }

@@ -13,7 +13,7 @@ ghost use Rattle.take_rules.specs.Tally.{tally_of, cleared, raised_of};
 ghost use Rattle.cutter_rules.specs.Largest.{largest_of};
 ghost use Rattle.cutter_rules.specs.Cut.{cut_of, cut_output};
 ghost use Rattle.kept.specs.Kept.{take_bytes, take_of};
-ghost use Rattle.firmware.specs.Face.{fields_of, header_from, followed_for, laid_for, kept_after, count_for};
+ghost use Rattle.firmware.specs.Face.{fields_of, header_from, followed_for, laid_for, kept_after, count_for, state_for, shape_for};
 
 // The rate of an index, in Hz.
 #[unsafe(no_mangle)]
@@ -167,4 +167,13 @@ pub extern "C" fn tashmirok_follow(
     ensures track { track.new ≡ followed_track (take_of kept.old) address datagram.now track.old }
 {
     firmware::tashmirok_follow(kept, tally, address, datagram, track, laid)
+}
+
+// What the first packet accepted has fixed: rate index, channels, data type and N.
+#[unsafe(no_mangle)]
+pub extern "C" fn tashmirok_shape(kept: &[u8; 40], shape: &mut [u32; 4]) -> u8
+    ensures answer { result ≡ number_of (state_for kept.now) }
+    ensures shape { shape.new ≡ shape_for kept.now }
+{
+    firmware::tashmirok_shape(kept, shape)
 }

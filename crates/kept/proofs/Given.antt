@@ -65,7 +65,7 @@ unbegun_typed : (who : Who) → length who.name ≡ 16 → who.address < 2 ^ 32 
 unbegun_typed who n l = of_parts (unbegun_for who) n l (omega arith, (omega arith, omega arith)) (omega arith, (omega arith, omega arith))
 
 module _ (name : List ℕ) (address : ℕ) (short : length name ≤ 16) (a : address < 2 ^ 32) where
-  opened_typed : TypedTake (open_of name address).take
+  pub opened_typed : TypedTake (open_of name address).take
   opened_typed = by_name name address short (λ r. TypedTake r.take) (λ g. unbegun_typed _ (kept_length name short) a) (λ g. unbegun_typed _ refl (omega arith))
 
   pub kept_opened : let t = (open_of name address).take in take_of (take_bytes t) ≡ t
@@ -98,7 +98,7 @@ module _ (t : Take) (address : ℕ) (d track : List ℕ) (w : TypedTake t) (byte
       (shape_fits t.begun t.shape (shape_of h) (shape_part t w) (omega arith, (omega (arith, bytes 6), omega arith)))
       (next_fits t.line h.counter h.frames (line_part t w) c (omega (arith, bytes 5)) (decided t h) p)
 
-  followed_typed : TypedTake (followed_of t address d track).take
+  pub followed_typed : TypedTake (followed_of t address d track).take
   unfolding followed_of
   followed_typed =
       by_test (λ b. eqb (number_of answer) 0 ≡ b → TypedTake (choose b (followed_by t h) t)) (eqb (number_of answer) 0)

@@ -40,7 +40,7 @@ fn bad_line(l: Line) -> bool
 }
 
 // The take's name comes beside the take, so that it need not be copied out of it.
-fn bad_state(name: &[u8], t: Take) -> bool
+pub fn bad_state(name: &[u8], t: Take) -> bool
     requires { name.now ≡ t.who.name }
     ensures { result ≡ bad_state t }
 {

@@ -78,7 +78,7 @@ module _ (t : Take) (short : length t.who.name ≤ 16) where
   by_kept : GoodShape t.shape × GoodLine t.line → bad ≡ false
   by_kept g = rw (by_shape t.shape g.0, by_line t.line g.1)
 
-  state_by : bad_state t ≡ false → GoodState t
+  pub state_by : bad_state t ≡ false → GoodState t
   state_by e =
       let c = none_holds (not (good_name t.who.name) ∷ (t.begun && bad) ∷ []) e in
       record {
@@ -87,7 +87,7 @@ module _ (t : Take) (short : length t.who.name ≤ 16) where
         lined = λ b. (once_by t.begun bad kept_by c.1.0 b).1;
       }
 
-  by_state : GoodState t → bad_state t ≡ false
+  pub by_state : GoodState t → bad_state t ≡ false
   by_state g = rw ((good_exactly t.who.name short).1 g.named, by_once t.begun bad by_kept (λ b. (g.shaped b, g.lined b)))
 
 module _ (who : Who) (address : ℕ) (d : List ℕ) where
