@@ -14,7 +14,7 @@ pub fn open(wanted: &[u8], track: &mut [u8]) -> Opened
     ensures track { track.new ≡ opened_track (take 16 (drop 4 wanted.now)) track.old }
 {
     let mut name = [0u8; 16];
-    bytes::copy(&wanted[4..20], &mut name);
+    name.copy_from_slice(&wanted[4..20]);
     recorder::open(name, crate::address(wanted), track)
 }
 

@@ -36,7 +36,7 @@ fn name(kept: &[u8]) -> [u8; 16]
     ensures { result ≡ take_first 16 kept.now }
 {
     let mut name = [0u8; 16];
-    bytes::copy(&kept[0..ADDRESS], &mut name);
+    name.copy_from_slice(&kept[0..ADDRESS]);
     name
 }
 
