@@ -175,12 +175,7 @@ pub fn tashmirok_count(tally: &[u32; 17], number: u8) -> u32
 }
 
 // A take for a name and a sender's address, on a lent track.
-pub fn tashmirok_open(
-    kept: &mut [u8; 40],
-    name: &[u8; 16],
-    address: u32,
-    track: &mut [u8],
-) -> u8
+pub fn tashmirok_open(kept: &mut [u8; 40], name: &[u8; 16], address: u32, track: &mut [u8]) -> u8
     ensures answer { result ≡ number_of (open_of name.now address).answer }
     ensures take { kept.new ≡ take_bytes (open_of name.now address).take }
     ensures track { track.new ≡ opened_track name.now track.old }
