@@ -66,7 +66,9 @@ pub extern "C" fn tashmirok_write(
     ensures output { out.new ≡ output_of (header_from rate frames channels format name.now counter) samples.now out.old }
     ensures written { written.new ≡ (write_of (header_from rate frames channels format name.now counter) samples.now out.old).length }
 {
-    firmware::tashmirok_write(rate, frames, channels, format, name, counter, samples, out, written)
+    firmware::tashmirok_write(
+        rate, frames, channels, format, name, counter, samples, out, written,
+    )
 }
 
 // The most frames that a packet of a type and channels can have.
@@ -96,7 +98,9 @@ pub extern "C" fn tashmirok_cut(
     ensures output { out.new ≡ cut_output (header_from rate frames channels format name.now start) track.now k out.old }
     ensures written { written.new ≡ (cut_of (header_from rate frames channels format name.now start) track.now k out.old).length }
 {
-    firmware::tashmirok_cut(rate, frames, channels, format, name, start, track, k, out, written)
+    firmware::tashmirok_cut(
+        rate, frames, channels, format, name, start, track, k, out, written,
+    )
 }
 
 // How many bytes a take has.

@@ -1,6 +1,5 @@
 -- The numbers after the address.
 use native.Mathlib.Omega.{arith}
-use borrow.Author.Rules.{rules}
 use Rattle.kept.proofs.Keeping.{middle_is}
 use Rattle.kept.proofs.middle.Goals as goal
 

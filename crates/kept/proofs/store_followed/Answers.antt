@@ -1,6 +1,5 @@
 -- Where the bytes are as we write them the newest alone is stored, and else all after the name.
 use mathlib.Core.Path.{sym}
-use borrow.Author.Rules.{rules}
 use Rattle.kept.proofs.Keeping.{plain_by, plain_stored, placed_as, tail_followed}
 use Rattle.kept.proofs.store_followed.Goals as goal
 

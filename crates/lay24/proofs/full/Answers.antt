@@ -1,5 +1,4 @@
 -- Laid by a copy.
-use borrow.Author.Rules.{rules}
 use Rattle.lay24.proofs.Copying.{laid_whole}
 use Rattle.lay24.proofs.full.Goals as goal
 

@@ -1,11 +1,10 @@
 -- Two frames a turn, and the one that may be left.
-use Prim.Native.Nat.{◌+◌, ◌*◌, ◌-◌, ◌/◌, ◌%◌, ◌≤◌}
+use Prim.Native.Nat.{◌+◌, ◌*◌, ◌/◌, ◌%◌, ◌≤◌}
 use native.Mathlib.Omega.{arith}
 use lib.ListN.{length}
 use borrow.Author.Rules.{rules}
 use Rattle.formats.specs.Formats.{unsigned8, size_of}
-use Rattle.track_rules.specs.Records.{packet_slot}
-use Rattle.records.proofs.Laying.{Laying, lay_start, frames_room, lay_two, lay_rest}
+use Rattle.records.proofs.Laying.{lay_start, frames_room, lay_two, lay_rest}
 use Rattle.lay8.proofs.few.Goals as goal
 
 pub loop-k-init : goal.loop-k-init

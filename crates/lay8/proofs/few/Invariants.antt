@@ -1,11 +1,8 @@
 -- Two frames a turn, and the one that may be left.
-use Prim.Native.Nat.{◌+◌, ◌*◌, ◌-◌, ◌/◌, ◌%◌, ◌≤◌}
-use native.Mathlib.Omega.{arith}
-use lib.ListN.{length}
-use borrow.Author.Rules.{rules}
-use Rattle.formats.specs.Formats.{unsigned8, size_of}
+use Prim.Native.Nat.{◌*◌, ◌-◌, ◌/◌}
+use Rattle.formats.specs.Formats.{unsigned8}
 use Rattle.track_rules.specs.Records.{packet_slot}
-use Rattle.records.proofs.Laying.{Laying, lay_start, frames_room, lay_two, lay_rest}
+use Rattle.records.proofs.Laying.{Laying}
 use Rattle.lay8.proofs.few.Given as goal
 
 abbrev pub invariant-loop-k : goal.invariant-loop-k

@@ -1,11 +1,9 @@
 -- A record a turn, each in the part of the track that it is lent.
-use Prim.Native.Nat.{◌+◌, ◌*◌, ◌-◌, ◌≤◌}
+use Prim.Native.Nat.{◌+◌, ◌*◌, ◌≤◌}
 use native.Mathlib.Omega.{arith}
 use lib.ListN.{length}
-use borrow.Author.Rules.{rules}
 use Rattle.formats.specs.Formats.{unsigned8}
-use Rattle.track_rules.specs.Records.{packet_slot}
-use Rattle.records.proofs.Laying.{Laying, lay_start, frame_room, packet_next, lay_end}
+use Rattle.records.proofs.Laying.{lay_start, frame_room, packet_next, lay_end}
 use Rattle.lay8.proofs.full.Goals as goal
 
 pub loop-k-init : goal.loop-k-init

@@ -1,11 +1,8 @@
 -- A record a turn, each in the part of the track that it is lent.
-use Prim.Native.Nat.{◌+◌, ◌*◌, ◌-◌, ◌≤◌}
-use native.Mathlib.Omega.{arith}
-use lib.ListN.{length}
-use borrow.Author.Rules.{rules}
+use Prim.Native.Nat.{◌-◌}
 use Rattle.formats.specs.Formats.{unsigned8}
 use Rattle.track_rules.specs.Records.{packet_slot}
-use Rattle.records.proofs.Laying.{Laying, lay_start, frame_room, packet_next, lay_end}
+use Rattle.records.proofs.Laying.{Laying}
 use Rattle.lay8.proofs.full.Given as goal
 
 abbrev pub invariant-loop-k : goal.invariant-loop-k

@@ -6,7 +6,6 @@ use native.Mathlib.Nat.{mul-one}
 use native.Mathlib.Omega.{arith}
 use lib.Bits.{bit_xor}
 use lib.Dec.{lit<}
-use borrow.Author.Rules.{rules}
 use Rattle.lists.specs.Lists.{byte}
 use Rattle.lists.specs.Little.{little}
 use Rattle.lists.proofs.Little.{little_one, little_byte}

@@ -1,11 +1,10 @@
 -- A frame a turn.
-use Prim.Native.Nat.{◌+◌, ◌*◌, ◌-◌, ◌≤◌}
+use Prim.Native.Nat.{◌+◌, ◌*◌, ◌≤◌}
 use native.Mathlib.Omega.{arith}
 use lib.ListN.{length}
 use borrow.Author.Rules.{rules}
 use Rattle.formats.specs.Formats.{unsigned8, size_of}
-use Rattle.track_rules.specs.Records.{packet_slot}
-use Rattle.records.proofs.Laying.{Laying, lay_start, frame_room, lay_more, lay_end}
+use Rattle.records.proofs.Laying.{lay_start, frame_room, lay_more, lay_end}
 use Rattle.lay8.proofs.some.Goals as goal
 
 pub loop-k-init : goal.loop-k-init

@@ -1,10 +1,9 @@
 -- A record a turn, each in the part of the track that it is lent.
-use Prim.Native.Nat.{◌+◌, ◌*◌, ◌-◌, ◌≤◌}
+use Prim.Native.Nat.{◌+◌, ◌*◌, ◌≤◌}
 use native.Mathlib.Omega.{arith}
 use borrow.Author.Rules.{rules}
 use Rattle.lists.proofs.Lists.{within}
-use Rattle.lay_blocks.specs.Blocks.{block_frames}
-use Rattle.records.proofs.Laying.{Laying, lay_start, lay_next, lay_end}
+use Rattle.records.proofs.Laying.{lay_start, lay_next, lay_end}
 use Rattle.lay_blocks.proofs.lay_all.Goals as goal
 
 pub loop-k-init : goal.loop-k-init

@@ -1,10 +1,7 @@
 -- A record a turn, each in the part of the track that it is lent.
-use Prim.Native.Nat.{◌+◌, ◌*◌, ◌-◌, ◌≤◌}
-use native.Mathlib.Omega.{arith}
-use borrow.Author.Rules.{rules}
-use Rattle.lists.proofs.Lists.{within}
+use Prim.Native.Nat.{◌-◌}
 use Rattle.lay_blocks.specs.Blocks.{block_frames}
-use Rattle.records.proofs.Laying.{Laying, lay_start, lay_next, lay_end}
+use Rattle.records.proofs.Laying.{Laying}
 use Rattle.lay_blocks.proofs.lay_all.Given as goal
 
 abbrev pub invariant-loop-k : goal.invariant-loop-k

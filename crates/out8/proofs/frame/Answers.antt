@@ -1,10 +1,7 @@
 -- A sample a turn, each in the part of the frame that it is lent.
-use Prim.Native.Nat.{◌-◌}
 use native.Mathlib.Omega.{arith}
 use borrow.Author.Rules.{rules}
 use Rattle.formats.specs.Formats.{unsigned8}
-use Rattle.lists.proofs.Loops.{Pieces}
-use Rattle.records.specs.Frames.{sent_bytes}
 use Rattle.records.proofs.Taking.{frame_start, frame_next, frame_end}
 use Rattle.out8.proofs.frame.Goals as goal
 

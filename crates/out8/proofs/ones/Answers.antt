@@ -1,12 +1,12 @@
 -- Sixteen frames a turn, in the part of the data that they are lent, and what is left.
 use mathlib.Core.Path.{◌≡◌}
-use Prim.Native.Nat.{◌+◌, ◌*◌, ◌-◌, ◌≤◌}
+use Prim.Native.Nat.{◌+◌, ◌≤◌}
 use native.Mathlib.Omega.{arith}
 use lib.ListN.{length}
 use borrow.Author.Rules.{rules}
 use Rattle.lists.proofs.Loops.{walk_there, walk_next}
 use Rattle.formats.specs.Formats.{unsigned8}
-use Rattle.records.proofs.Groups.{Groups, group_start, rest}
+use Rattle.records.proofs.Groups.{group_start, rest}
 use Rattle.out8.proofs.ones.Goals as goal
 
 pub overflow_add-end : goal.overflow_add-end

@@ -1,12 +1,7 @@
 -- Sixteen frames a turn, in the part of the data that they are lent, and what is left.
-use mathlib.Core.Path.{◌≡◌}
-use Prim.Native.Nat.{◌+◌, ◌*◌, ◌-◌, ◌≤◌}
-use native.Mathlib.Omega.{arith}
-use lib.ListN.{length}
-use borrow.Author.Rules.{rules}
-use Rattle.lists.proofs.Loops.{walk_there, walk_next}
+use Prim.Native.Nat.{◌*◌, ◌-◌}
 use Rattle.formats.specs.Formats.{unsigned8}
-use Rattle.records.proofs.Groups.{Groups, group_start, rest}
+use Rattle.records.proofs.Groups.{Groups}
 use Rattle.out8.proofs.ones.Given as goal
 
 abbrev pub invariant-loop-k : goal.invariant-loop-k

@@ -1,11 +1,11 @@
 -- Two frames a turn, as a word in the part of the data that it is lent, and what is left.
-use Prim.Native.Nat.{◌+◌, ◌*◌, ◌-◌, ◌≤◌}
+use Prim.Native.Nat.{◌+◌, ◌≤◌}
 use native.Mathlib.Omega.{arith}
 use lib.ListN.{length}
 use borrow.Author.Rules.{rules}
 use Rattle.lists.proofs.Loops.{walk_there}
 use Rattle.formats.specs.Formats.{unsigned8}
-use Rattle.records.proofs.Groups.{Groups, group_start, group_next, rest}
+use Rattle.records.proofs.Groups.{group_start, group_next, rest}
 use Rattle.out8.proofs.pairs.Goals as goal
 
 pub loop-k-init : goal.loop-k-init

@@ -1,11 +1,7 @@
 -- Two frames a turn, as a word in the part of the data that it is lent, and what is left.
-use Prim.Native.Nat.{◌+◌, ◌*◌, ◌-◌, ◌≤◌}
-use native.Mathlib.Omega.{arith}
-use lib.ListN.{length}
-use borrow.Author.Rules.{rules}
-use Rattle.lists.proofs.Loops.{walk_there}
+use Prim.Native.Nat.{◌*◌, ◌-◌}
 use Rattle.formats.specs.Formats.{unsigned8}
-use Rattle.records.proofs.Groups.{Groups, group_start, group_next, rest}
+use Rattle.records.proofs.Groups.{Groups}
 use Rattle.out8.proofs.pairs.Given as goal
 
 abbrev pub invariant-loop-k : goal.invariant-loop-k

@@ -1,11 +1,10 @@
 -- A frame a turn, each in the part of the data that it is lent.
-use Prim.Native.Nat.{◌+◌, ◌*◌, ◌-◌, ◌≤◌}
+use Prim.Native.Nat.{◌+◌, ◌*◌, ◌≤◌}
 use native.Mathlib.Omega.{arith}
 use lib.ListN.{length}
 use borrow.Author.Rules.{rules}
-use Rattle.formats.specs.Formats.{unsigned8}
 use Rattle.lists.proofs.Loops.{walk_there, walk_next}
-use Rattle.records.proofs.Taking.{Taking, take_start, taken}
+use Rattle.records.proofs.Taking.{take_start, taken}
 use Rattle.out8.proofs.some.Goals as goal
 
 pub loop-k-init : goal.loop-k-init

@@ -1,11 +1,7 @@
 -- A frame a turn, each in the part of the data that it is lent.
-use Prim.Native.Nat.{◌+◌, ◌*◌, ◌-◌, ◌≤◌}
-use native.Mathlib.Omega.{arith}
-use lib.ListN.{length}
-use borrow.Author.Rules.{rules}
+use Prim.Native.Nat.{◌*◌, ◌-◌}
 use Rattle.formats.specs.Formats.{unsigned8}
-use Rattle.lists.proofs.Loops.{walk_there, walk_next}
-use Rattle.records.proofs.Taking.{Taking, take_start, taken}
+use Rattle.records.proofs.Taking.{Taking}
 use Rattle.out8.proofs.some.Given as goal
 
 abbrev pub invariant-loop-k : goal.invariant-loop-k

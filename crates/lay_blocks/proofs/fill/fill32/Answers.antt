@@ -1,10 +1,6 @@
 -- A sample a turn.
-use mathlib.Core.Path.{◌≡◌}
-use Prim.Native.Nat.{◌+◌, ◌*◌, ◌-◌}
 use borrow.Author.Rules.{rules}
-use Rattle.lists.proofs.Loops.{Pieces}
 use Rattle.formats.specs.Formats.{signed32}
-use Rattle.lay_blocks.specs.Blocks.{sample_slot}
 use Rattle.lay_blocks.proofs.BlockLaws.{fill_start, fill_next, fill_end}
 use Rattle.lay_blocks.proofs.fill.fill32.Goals as goal
 

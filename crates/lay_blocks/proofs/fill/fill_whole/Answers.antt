@@ -1,17 +1,14 @@
 -- By the type: no other is laid by way of a block.
 use mathlib.Core.Path.{◌≡◌, refl}
 use mathlib.Core.Bool.{true, false≢true}
-use mathlib.Core.List.{List, [], ◌∷◌}
+use mathlib.Core.List.{List}
 use Prim.Native.Nat.{ℕ, ◌+◌, ◌*◌, ◌≤◌}
-use types.Run.{OneOf, miss}
-use denote.Enum.Declared.{tag_of}
 use borrow.Author.Rules.{rules}
 use Rattle.lists.specs.Lists.{put}
 use Rattle.formats.specs.declared.Integer.{Integer}
 use Rattle.formats.specs.declared.Integer.TheVariants.{Unsigned8, Signed16, Signed24, Signed32}
 use Rattle.formats.specs.declared.Format.TheVariants.{Whole}
 use Rattle.formats.specs.Formats.{whole_size}
-use Rattle.formats.specs.contracts.Integer.{the_type}
 use Rattle.lay_blocks.specs.Blocks.{whole_by_block, slots_from}
 use Rattle.lay_blocks.proofs.fill.fill_whole.Goals as goal
 

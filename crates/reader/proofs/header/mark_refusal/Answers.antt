@@ -1,5 +1,4 @@
 -- Each test is a row of the table.
-use borrow.Author.Rules.{rules}
 use Rattle.lists.proofs.Branches.{flag_yes, flag_no}
 use Rattle.reader.proofs.Rows.{negated}
 use Rattle.reader.proofs.header.mark_refusal.Goals as goal

@@ -1,6 +1,5 @@
 -- The first part of the table, and then the second.
 use mathlib.Core.Path.{refl}
-use borrow.Author.Rules.{rules}
 use Rattle.wire_rules.specs.Header.{mark_rows, field_rows, header_rows}
 use Rattle.reader.proofs.Rows.{stops, goes}
 use Rattle.reader.proofs.header.refusal.Goals as goal

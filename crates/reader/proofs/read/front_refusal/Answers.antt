@@ -1,7 +1,6 @@
 -- The lead, and then the name.
 use mathlib.Core.Path.{refl}
 use native.Mathlib.Omega.{arith}
-use borrow.Author.Rules.{rules}
 use Rattle.lists.proofs.Branches.{flag_yes, flag_no}
 use Rattle.wire_rules.specs.Read.{lead_rows, name_rows, front_rows}
 use Rattle.reader.proofs.Rows.{negated, long_enough, stops, goes}

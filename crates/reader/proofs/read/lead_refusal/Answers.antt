@@ -1,5 +1,4 @@
 -- Each test is a row.
-use borrow.Author.Rules.{rules}
 use Rattle.lists.proofs.Branches.{flag_yes, flag_no, less_yes, less_no}
 use Rattle.reader.proofs.read.lead_refusal.Goals as goal
 

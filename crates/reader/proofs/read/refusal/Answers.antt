@@ -1,6 +1,5 @@
 -- The first part of the table, and then the second.
 use mathlib.Core.Path.{refl}
-use borrow.Author.Rules.{rules}
 use Rattle.wire_rules.specs.Read.{front_rows, audio_rows, read_rows}
 use Rattle.reader.proofs.Rows.{stops, goes}
 use Rattle.reader.proofs.read.refusal.Goals as goal

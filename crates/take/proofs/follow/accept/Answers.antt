@@ -1,5 +1,4 @@
 -- Laid at the place that follows from the newest, or at 0.
-use Rattle.std.proofs.Common.{rules}
 use Rattle.take.proofs.Following.{next_accepted, next_laid}
 use Rattle.take.proofs.follow.accept.Goals as goal
 

@@ -1,5 +1,4 @@
 -- One half after the other.
-use Rattle.std.proofs.Common.{rules}
 use Rattle.take.proofs.Judging.{stream_refused, packet_judged}
 use Rattle.take.proofs.judge.judge.Goals as goal
 

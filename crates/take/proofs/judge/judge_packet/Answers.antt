@@ -1,5 +1,4 @@
 -- The packet's rows part by part.
-use Rattle.std.proofs.Common.{rules}
 use Rattle.take.proofs.Judging.{audio_refused, take_refused, all_pass}
 use Rattle.take.proofs.judge.judge_packet.Goals as goal
 

@@ -1,5 +1,4 @@
 -- The very bytes, or each test a row.
-use Rattle.std.proofs.Common.{rules}
 use Rattle.lists.proofs.Branches.{flag_yes, flag_no}
 use Rattle.reader.proofs.Rows.{negated}
 use Rattle.take.proofs.Judging.{very_bytes}

@@ -1,5 +1,5 @@
 -- What is left to look at has the rest of the name.
-use Rattle.std.proofs.Common.{ℕ, ◌≡◌, ◌+◌, ◌≤◌, ◌<◌, List, length, drop, get_or, ap, arith, rules}
+use Rattle.std.proofs.Common.{ℕ, ◌≡◌, ◌+◌, ◌≤◌, ◌<◌, List, length, drop, get_or, ap, arith}
 use native.Mathlib.Numerals.{add-one}
 use lib.ListN.{get_or-eq_default}
 use Rattle.wire_rules.specs.Names.{name_of}

@@ -1,5 +1,4 @@
 -- Measured.
-use borrow.Author.Rules.{rules}
 use Rattle.wire.proofs.Measuring.{measured_good}
 use Rattle.wire.proofs.name.good.Goals as goal
 

@@ -1,5 +1,4 @@
 -- The row, or none below the table's end.
-use borrow.Author.Rules.{rules}
 use Rattle.lists.proofs.Branches.{less_yes, less_no}
 use Rattle.wire_rules.specs.Rates.{rates, rate_of}
 use Rattle.wire.proofs.rate.rate.Goals as goal

@@ -2,7 +2,6 @@
 use mathlib.Core.Path.{sym, ◌∙◌}
 use native.Mathlib.Nat.{le_refl, le_of_lt}
 use lib.ListN.{drop_of_length-le}
-use borrow.Author.Rules.{rules}
 use Rattle.writer.proofs.again.data_start.Goals as goal
 
 pub returns-then-d-lt-HEADER : goal.returns-then-d-lt-HEADER

@@ -6,7 +6,6 @@ use native.Mathlib.Nat.{le_of_eq}
 use native.Mathlib.Omega.{arith}
 use lib.ListN.{length, take, drop, length-drop}
 use lib.Seq.{take_all}
-use borrow.Author.Rules.{rules}
 use Rattle.lists.specs.Lists.{byte}
 use Rattle.wire_rules.specs.declared.Read.{Read}
 use Rattle.wire_rules.specs.declared.Written.{Written}
