@@ -6,7 +6,7 @@ import tempfile
 from dataclasses import dataclass
 from pathlib import Path
 
-from programs import TARGET, environment
+from programs import TARGET
 
 INPUT = "stdin.bin"
 SECONDS = 30
@@ -51,7 +51,7 @@ def start(command, folder, given, variables=None, shown=subprocess.PIPE):
     try:
         # SIGPIPE stays ignored, as it is here, so that a pipe that nobody reads is an error that a program can say.
         return subprocess.run(command, cwd=folder, stdin=given, stdout=shown, stderr=subprocess.PIPE, timeout=SECONDS,
-                              env=variables or environment(), restore_signals=False, check=False)
+                              env=variables, restore_signals=False, check=False)
     except subprocess.TimeoutExpired:
         return None
 
@@ -59,7 +59,7 @@ def start(command, folder, given, variables=None, shown=subprocess.PIPE):
 def bad_end(status, fault):
     """What is wrong with a status, if anything: it has to be 0; after a fault it is the program's own.
 
-    No signal may end a program: its status is negative, or over 128 where a shell or an emulator stands before it.
+    No signal may end a program: its status is negative, or over 128 where a shell stands before it.
     """
     if status < 0 or status > 128:
         return f"ended by signal {-status if status < 0 else status - 128}"

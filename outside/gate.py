@@ -1,7 +1,9 @@
 #!/usr/bin/env python3
-"""Runs the Rattle gate and then the tests under outside/tests, two at a time, and closes with one line that sums both.
+"""Runs the Rattle gate and then the tests under outside/tests, and closes with one line that sums both.
 
-Exit status 0 only where nothing failed. A test file that is gone, or that stands there and is not named here, has failed.
+The tests run two at a time, and test_edits.py, which checks two crates at a time, after them. Exit status 0 only where nothing failed. The
+Rattle gate has failed too where it calls a must-fail edit bad, or does not say that all is well. A test file that is gone, or that stands
+there and is not named here, has failed.
 """
 import re
 import subprocess
@@ -14,9 +16,14 @@ sys.dont_write_bytecode = True
 from programs import ROOT, look_for
 
 TESTS = ROOT / "outside" / "tests"
-EXPECTED = ("test_differential.py", "test_edits.py", "test_faults.py", "test_firmware.py", "test_formats.py", "test_missing.py",
-            "test_programs.py", "test_promises.py", "test_real.py", "test_record.py", "test_reference.py", "test_samples.py")
+BESIDE = ("test_differential.py", "test_faults.py", "test_firmware.py", "test_formats.py", "test_missing.py", "test_programs.py",
+          "test_promises.py", "test_real.py", "test_record.py", "test_reference.py", "test_samples.py")
+ALONE = ("test_edits.py",)
+EXPECTED = (*BESIDE, *ALONE)
 LAST = re.compile(r"^(\d+) passed, (\d+) failed$")
+# The line by which `rt ci` says that all is well, and its word of must-fail edits that try nothing.
+WELL = "rt: ok"
+BAD = re.compile(r", \d+ bad\b")
 
 
 def show(text):
@@ -26,7 +33,8 @@ def show(text):
 def run(words, tell):
     """Runs a command, tells each line that it prints, and gives the counts on its last one."""
     began = time.time()
-    child = subprocess.Popen(words, cwd=ROOT, stdin=subprocess.DEVNULL, stdout=subprocess.PIPE, stderr=subprocess.STDOUT, text=True)
+    child = subprocess.Popen(words, cwd=ROOT, stdin=subprocess.DEVNULL, stdout=subprocess.PIPE, stderr=subprocess.STDOUT, text=True,
+                             errors="replace")
     last = ""
     for line in child.stdout:
         tell(line)
@@ -42,6 +50,22 @@ def run(words, tell):
     return passed, failed
 
 
+def run_rattle():
+    """Runs the Rattle gate; gives its counts, one failure more where it does not say that all is well, with no bad edit."""
+    lines = []
+
+    def tell(line):
+        lines.append(line)
+        show(line)
+
+    passed, failed = run(["rt", "ci"], tell)
+    said = [line for line in lines if line.startswith(WELL)]
+    why = f"rt ci has no line '{WELL}'" if not said else "rt ci calls must-fail edits bad" if BAD.search(said[-1]) else ""
+    if why:
+        print(why)
+    return passed, failed + bool(why)
+
+
 def run_test(name):
     """Runs a test file; gives all that it prints, and its counts."""
     lines = []
@@ -49,9 +73,9 @@ def run_test(name):
     return "".join(lines), counts
 
 
-def run_tests(names):
-    """Runs test files two at a time, shows what each prints when it and those before it are done, and gives their counts."""
-    with ThreadPoolExecutor(2) as pool:
+def run_tests(names, lanes):
+    """Runs so many test files at a time, shows what each prints when it and those before it are done, and gives their counts."""
+    with ThreadPoolExecutor(lanes) as pool:
         for said, counts in pool.map(run_test, names):
             show(said)
             yield counts
@@ -67,7 +91,9 @@ def unexpected(folder):
 def main():
     look_for("rt", "cargo", "rustc", "cc", "nm")
     wrong = unexpected(TESTS)
-    results = [run(["rt", "ci"], show), *run_tests([name for name in EXPECTED if (TESTS / name).is_file()])]
+    results = [run_rattle()]
+    for names, lanes in ((BESIDE, 2), (ALONE, 1)):
+        results += run_tests([name for name in names if (TESTS / name).is_file()], lanes)
     passed, failed = (sum(column) for column in zip(*results))
     failed += len(wrong)
     for line in wrong:

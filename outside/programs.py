@@ -1,4 +1,4 @@
-"""Where the programs stand, how they are built, and how this machine runs them.
+"""Where the programs stand and how they are built.
 
 `python3 outside/programs.py takelist` runs one in the folder that it is called in, on the input that it is given.
 """
@@ -8,17 +8,20 @@ import os
 import re
 import shutil
 import subprocess
-from functools import lru_cache
+import time
 from pathlib import Path
 
 ROOT = Path(__file__).resolve().parent.parent
+CRATES = ROOT / "crates"
 TARGET = ROOT / "target"
 REFERENCE = ROOT / "outside" / "reference"
 PROGRAMS = ("takelist", "cutlist")
 
 # What the commands run, and what each is.
 TOOLS = {"rt": "the Rattle kit", "cargo": "Rust", "rustc": "Rust", "cc": "a C compiler", "nm": "binutils"}
-PROVED = re.compile(r"rt: (\w+) proved \((?P<when>.*)\)")
+# The last lines of a proof name its crate, and then say how it came out.
+CRATE = re.compile(r"crate (\w+): modules ")
+PROVED = re.compile(r"logic=proved ")
 
 
 def arguments(description):
@@ -35,54 +38,24 @@ def look_for(*tools):
         raise SystemExit("not found on the path: " + ", ".join(missing))
 
 
-def below(*names):
-    """The crates that some stand on, themselves included; the kit's own are not in crates.txt."""
-    lines = (ROOT / "crates.txt").read_text(encoding="utf-8").splitlines()
-    needs = dict(line.split(":") for line in lines if line and not line.startswith("#"))
-    found, due = set(), list(names)
-    while due:
-        name = due.pop()
-        if name in needs and name not in found:
-            found.add(name)
-            due += needs[name].split()
-    return found
+def made(name, file):
+    """Where `rt` leaves what it makes of a crate."""
+    return CRATES / name / "out" / file
 
 
-def prove(what, *names, home=None):
-    """Has `rt` do something with crates, a line for each that is proved anew; shows all if it fails."""
-    total, count, said = len(below(*names)), 0, []
-    given = dict(os.environ, RATTLE_HOME=str(home)) if home else None
-    with subprocess.Popen(["rt", what, *names], cwd=ROOT, env=given, stdin=subprocess.DEVNULL, text=True,
+def prove(verb, name):
+    """Has `rt` prove a crate and those below, and build it; a line for each that is proved anew, and all that it says if it fails."""
+    began, crate, said = time.monotonic(), name, []
+    with subprocess.Popen(["rt", verb], cwd=CRATES / name, stdin=subprocess.DEVNULL, text=True, errors="replace",
                           stdout=subprocess.PIPE, stderr=subprocess.STDOUT) as child:
         for line in child.stdout:
             said.append(line)
-            found = PROVED.match(line)
-            count += bool(found)
-            if found and not found["when"].startswith("unchanged"):
-                print(f"  {count} of {total} crates proved: {found[1]}, {found['when']}", flush=True)
+            found = CRATE.match(line)
+            crate = found[1] if found else crate
+            if PROVED.match(line):
+                print(f"  proved after {time.monotonic() - began:.0f} s: {crate}", flush=True)
     if child.returncode != 0:
-        raise SystemExit("".join(said) + f"rt {what} {' '.join(names)}: status {child.returncode}")
-
-
-def kit():
-    """The kit's folder, two above the guide that `rt doc` names."""
-    look_for("rt")
-    guide = subprocess.run(["rt", "doc"], cwd=ROOT, capture_output=True, text=True, check=True).stdout
-    return Path(guide.strip()).parent.parent
-
-
-@lru_cache(maxsize=None)
-def launcher():
-    """What `rt` puts before a program: the kit's loader, and its emulator where it has one."""
-    tools = kit() / "on" / os.uname().machine / "toolchain"
-    emulator, libraries = tools / "bin" / "qemu-x86_64", tools / "lib"
-    front = [str(emulator)] if emulator.is_file() else []
-    return [*front, str(libraries / "ld-linux-x86-64.so.2"), "--library-path", str(libraries)]
-
-
-def environment():
-    """The environment that programs run in: the emulator's own settings are left out."""
-    return {key: value for key, value in os.environ.items() if not key.startswith("QEMU_")}
+        raise SystemExit("".join(said) + f"rt {verb} in crates/{name}: status {child.returncode}")
 
 
 def program(name, folder=None):
@@ -91,18 +64,19 @@ def program(name, folder=None):
         return [str(Path(folder).resolve() / name)]
     if not up_to_date():
         raise SystemExit(f"{name} is not built, or a source is newer: `make run` proves and builds it")
-    return [*launcher(), str(TARGET / "bin" / name)]
+    return [str(made(name, name))]
 
 
 def newest_source():
     """When a source was last changed."""
-    sources = [ROOT / "crates.txt", *filter(Path.is_file, (ROOT / "crates").rglob("*"))]
-    return max(path.stat().st_mtime for path in sources)
+    paths = [path for crate in CRATES.iterdir() if crate.is_dir() for part in crate.iterdir() if part.name != "out"
+             for path in (part, *part.rglob("*"))]
+    return max(path.stat().st_mtime for path in [ROOT / "crates.txt", *filter(Path.is_file, paths)])
 
 
 def up_to_date():
     """Whether both programs stand and are newer than every source."""
-    built = [TARGET / "bin" / name for name in PROGRAMS]
+    built = [made(name, name) for name in PROGRAMS]
     return (all(path.is_file() for path in built)
             and newest_source() <= min(path.stat().st_mtime for path in built))
 
@@ -113,12 +87,11 @@ def build_programs():
         return
     look_for("rt")
     print("proving and building the programs (10 to 15 minutes where nothing is proved yet)", flush=True)
-    prove("check", *PROGRAMS)
-    for path in (TARGET / "bin" / name for name in PROGRAMS):
-        if not path.is_file():
-            raise SystemExit(f"{path} is gone, and rt holds it built: remove target/ and try again")
+    for name in PROGRAMS:
+        # It is run there too, finds no file of its job, says so and writes nothing.
+        prove("run", name)
         # rt goes by what the sources hold and leaves a program that is still the right one.
-        path.touch()
+        made(name, name).touch()
 
 
 def cargo(*words):
@@ -147,7 +120,7 @@ def main():
     parser = argparse.ArgumentParser(description=__doc__)
     parser.add_argument("name", choices=PROGRAMS)
     command = program(parser.parse_args().name)
-    os.execve(command[0], command, environment())
+    os.execv(command[0], command)
 
 
 if __name__ == "__main__":

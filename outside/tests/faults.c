@@ -1,13 +1,13 @@
-/* Loaded before a program, it has chosen calls of read, write and close fail. FAULTS names them, a word each:
+/* Loaded before a program, it has chosen calls of read, write, fsync and close fail. FAULTS names them, a word each:
 
        CALL,FILE,NUMBER,OUTCOME
 
-   CALL is r, w or c. FILE is the descriptor, 3 standing for all from 3 on. NUMBER counts such calls from 1. OUTCOME is
+   CALL is r, w, s or c. FILE is the descriptor, 3 standing for all from 3 on. NUMBER counts such calls from 1. OUTCOME is
    an error's number; 0: nothing is moved, and no error; below 0: no more bytes than that are moved.
    A fault that was made leaves a file `made-N` in the folder that MADE names, N being its place among the words; where MADE
    is not set, or does not start with a slash, it leaves none.
 
-   It uses no header: the kit's compiler has none. */
+   It uses no header and links no library: what it calls is the program's own. */
 
 extern char *getenv(const char *name);
 extern long strtol(const char *text, char **end, int base);
@@ -16,18 +16,15 @@ extern int *__errno_location(void);
 extern int creat(const char *path, unsigned mode);
 extern int snprintf(char *text, unsigned long room, const char *form, ...);
 
-#if defined(__x86_64__)
-enum { READ = 0, WRITE = 1, CLOSE = 3 };
-#elif defined(__aarch64__)
-enum { READ = 63, WRITE = 64, CLOSE = 57 };
-#else
+#if !defined(__x86_64__)
 #error "the numbers of the calls are not known here"
 #endif
+enum { READ = 0, WRITE = 1, CLOSE = 3, SYNC = 74 };
 
 enum { FILES = 4, LONGEST = 4096, NO_FAULT = 1000000 };
 
 /* How many calls of each kind each file has had. */
-static long calls[3][FILES];
+static long calls[4][FILES];
 
 static void leave_mark(int place)
 {
@@ -86,8 +83,17 @@ long write(int file, const void *bytes, unsigned long length)
     return file < 0 ? fail(9) : move(WRITE, outcome('w', 1, file), file, bytes, length);
 }
 
+static int end(long number, long what, int file)
+{
+    return (int)(what == NO_FAULT ? syscall(number, file) : fail(what));
+}
+
+int fsync(int file)
+{
+    return end(SYNC, file < 0 ? 9 : outcome('s', 2, file), file);
+}
+
 int close(int file)
 {
-    const long what = file < 0 ? 9 : outcome('c', 2, file);
-    return (int)(what == NO_FAULT ? syscall(CLOSE, file) : fail(what));
+    return end(CLOSE, file < 0 ? 9 : outcome('c', 3, file), file);
 }

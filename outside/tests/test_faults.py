@@ -1,7 +1,9 @@
-"""The programs where a call of the system fails: a read, a write or a close, by a library that is loaded before them (faults.c).
+"""The programs where a call of the system fails, by a library that is loaded before them (faults.c): a read, a write, or waiting until
+what was written is on the disk.
 
-A read or a write that was interrupted is tried again. Opening and closing are not: a close may have been done. A short call makes no
-difference. After any other failure a program says so on standard error, once; what it prints and writes then is what each case names.
+A call that was interrupted is tried again. A short one makes no difference. After any other failure a program says so on standard error,
+once; what it prints and writes then is what each case names. An input that breaks is asked once more before that is said, so it stays broken
+in these cases.
 """
 
 import os
@@ -17,7 +19,7 @@ sys.path.insert(0, str(HERE.parent))
 
 import cases
 from cases import CUTLIST, TAKELIST
-from programs import PROGRAMS, TARGET, arguments, environment, kit, program
+from programs import PROGRAMS, TARGET, arguments, look_for, program
 
 EINTR, EIO, ENOSPC, EPIPE = 4, 5, 28, 32
 ADDRESS = bytes([10, 0, 0, 5])
@@ -56,35 +58,39 @@ class Case:
     said: bool = False
 
 
+def breaks(first, at=1):
+    """Standard input that gives no more from its read of that number on, after what comes first."""
+    return " ".join([first] * bool(first) + [f"r,0,{number},{EIO}" for number in (at, at + 1)])
+
+
 def takes():
-    """takelist, with 20 records. An input that breaks in a record is not told as cut: where the capture ends is not known."""
+    """takelist, with 20 records. Where its input breaks, it goes on as at the end of one."""
     for faults in ("", f"r,0,1,{EINTR}", f"r,0,1,-14720 r,0,2,{EINTR} r,0,3,-1", f"r,3,1,{EINTR}", f"r,3,1,-7 r,3,2,{EINTR}",
-                   f"w,1,1,{EINTR}", f"w,1,1,-7 w,1,2,{EINTR}", f"w,3,1,{EINTR}", f"w,3,1,-1000 w,3,2,{EINTR}"):
+                   f"w,1,1,{EINTR}", f"w,1,1,-7 w,1,2,{EINTR}", f"w,3,1,{EINTR}", f"w,3,1,-1000 w,3,2,{EINTR}", f"s,3,1,{EINTR}"):
         yield Case(TAKELIST, faults, capture(20), lines(20), track(20))
-    for most, count in ((14720, 10), (15000, 10), (1471, 0)):
-        yield Case(TAKELIST, f"r,0,1,-{most} r,0,2,{EIO}", capture(20), lines(count), track(count), True)
-    yield Case(TAKELIST, f"r,0,1,{EIO}", capture(20), b"", track(0), True)
-    yield Case(TAKELIST, f"r,0,2,{EIO}", capture(89), lines(44), track(44), True)
+    for most, count, cut in ((14720, 10, b""), (15000, 10, b"cut\n"), (1471, 0, b"cut\n")):
+        yield Case(TAKELIST, breaks(f"r,0,1,-{most}", 2), capture(20), lines(count) + cut, track(count), True)
+    yield Case(TAKELIST, breaks(""), capture(20), b"", track(0), True)
+    yield Case(TAKELIST, breaks("", 2), capture(89), lines(44), track(44), True)
     yield Case(TAKELIST, f"r,3,1,{EIO}", capture(20), b"no stream\n", None)
-    yield Case(TAKELIST, f"r,3,1,-20 r,3,2,{EIO}", capture(20), b"no stream\n", None)
+    yield Case(TAKELIST, f"r,3,1,-19 r,3,2,{EIO}", capture(20), b"no stream\n", None)
     for outcome in (ENOSPC, EPIPE, 0):
-        yield Case(TAKELIST, f"w,1,1,{outcome}", capture(89), b"", track(89), True)
+        yield Case(TAKELIST, f"w,1,1,{outcome}", capture(89), lines(89)[len(lines(44)):], track(89), True)
         yield Case(TAKELIST, f"w,1,1,-7 w,1,2,{outcome}", capture(20), lines(20)[:7], track(20), True)
         yield Case(TAKELIST, f"w,3,1,{outcome}", capture(20), lines(20), b"", True)
         yield Case(TAKELIST, f"w,3,1,-1000 w,3,2,{outcome}", capture(20), lines(20), track(20)[:1000], True)
         yield Case(TAKELIST, f"w,1,2,{outcome}", capture(20) + b"\0", lines(20), track(20), True)
         yield Case(TAKELIST, f"r,3,1,{EIO} w,1,1,{outcome}", capture(20), b"", None, True)
     yield Case(TAKELIST, f"w,3,1,{ENOSPC} c,3,2,{EIO}", capture(20), lines(20), b"", True)
-    for outcome in (EIO, EINTR):
-        yield Case(TAKELIST, f"c,3,2,{outcome}", capture(20), lines(20), track(20), True)
+    yield Case(TAKELIST, f"s,3,1,{EIO}", capture(20), lines(20), track(20), True)
 
 
 def cuts():
     """cutlist, with a track of 20 records, each a packet. It writes no capture of a track that it could not read whole."""
     for faults in ("", f"r,0,1,{EINTR}", f"r,0,1,-240 r,0,2,{EINTR} r,0,3,-1", f"r,3,1,{EINTR}", f"w,3,1,{EINTR}",
-                   f"w,3,1,-1000 w,3,2,{EINTR}"):
+                   f"w,3,1,-1000 w,3,2,{EINTR}", f"s,3,1,{EINTR}"):
         yield Case(CUTLIST, faults, RECORD * 20, b"", capture(20))
-    for faults in (f"r,0,1,{EIO}", f"r,0,1,-240 r,0,2,{EIO}", f"r,0,1,-7 r,0,2,{EIO}"):
+    for faults in (breaks(""), breaks("r,0,1,-240", 2), breaks("r,0,1,-7", 2)):
         yield Case(CUTLIST, faults, RECORD * 20, b"", None, True)
     yield Case(CUTLIST, f"r,3,1,{EIO}", RECORD * 20, b"no header\n", None)
     for outcome in (ENOSPC, EPIPE, 0):
@@ -93,28 +99,18 @@ def cuts():
         yield Case(CUTLIST, f"w,3,2,{outcome}", RECORD * 89, b"", capture(44), True)
         yield Case(CUTLIST, f"w,1,1,{outcome}", b"", b"", None, True)
     yield Case(CUTLIST, f"w,3,1,{ENOSPC} c,3,2,{EIO}", RECORD * 20, b"", b"", True)
-    for outcome in (EIO, EINTR):
-        yield Case(CUTLIST, f"c,3,2,{outcome}", RECORD * 20, b"", capture(20), True)
+    yield Case(CUTLIST, f"s,3,1,{EIO}", RECORD * 20, b"", capture(20), True)
 
 
-def library(folder, own):
-    """The library that fails calls: for programs of the kit by its compiler, for others by the machine's own."""
+def library(folder):
+    """The library that fails calls."""
+    look_for("cc")
     path = Path(folder) / "faults.so"
-    tools = kit() / "on" / os.uname().machine / "toolchain" / "bin"
-    words = ["cc"] if own else [str(tools / "clang"), "--target=x86_64-linux-gnu", "-fuse-ld=lld", f"-B{tools}"]
-    made = subprocess.run([*words, "-O1", "-fPIC", "-shared", "-nostdlib", "-o", str(path), str(HERE / "faults.c")],
+    made = subprocess.run(["cc", "-O1", "-fPIC", "-shared", "-nostdlib", "-o", str(path), str(HERE / "faults.c")],
                           capture_output=True, text=True, check=False)
     if made.returncode != 0:
         raise SystemExit(made.stderr + "faults.c does not compile")
     return path
-
-
-def command(name, folder, loaded):
-    """A program with the library before it: the kit's loader is told, another program's by its environment."""
-    words = program(name, folder)
-    if folder is not None:
-        return words, dict(environment(), LD_PRELOAD=str(loaded))
-    return [*words[:-1], "--preload", str(loaded), words[-1]], environment()
 
 
 def left(folder, name):
@@ -184,8 +180,8 @@ def main():
     TARGET.mkdir(exist_ok=True)
     passed = failed = 0
     with tempfile.TemporaryDirectory(prefix="faults-", dir=TARGET) as work:
-        loaded = library(work, folder is not None)
-        commands = {name: command(name, folder, loaded) for name in PROGRAMS}
+        variables = dict(os.environ, LD_PRELOAD=str(library(work)))
+        commands = {name: (program(name, folder), variables) for name in PROGRAMS}
         for name, problems in tried(commands):
             for problem in problems:
                 print(f"{name}: {problem}")

@@ -20,7 +20,7 @@ from programs import ROOT, TARGET, look_for
 
 WORK = TARGET / "firmware"
 HEADER = FIRMWARE / "tashmirok.h"
-CRATE = ROOT / "crates" / "firmware" / "src" / "lib.rt"
+CRATE = ROOT / "crates" / "firmware_c" / "src" / "lib.rt"
 # The crate's types in C, and the arrays that are types of their own there.
 TYPES = {"": "void", "u8": "uint8_t", "u16": "uint16_t", "u32": "uint32_t", "i64": "int64_t", "usize": "size_t"}
 OPAQUE = {"kept: [u8; 40]": "tashmirok_take *take", "tally: [u32; 17]": "tashmirok_tally *tally",

@@ -1,6 +1,6 @@
 """What is missing is noticed: a test file by the gate, and a tool by each command, in one line before any work.
 
-So is a test that fails: the gate's status and its last line tell it.
+So is a test that fails, and an edit that `rt ci` calls bad: the gate's status and its last line tell it.
 """
 
 import os
@@ -32,6 +32,9 @@ LACKING = (
 )
 SECONDS = 60
 PASSES = 'print("1 passed, 0 failed")\n'
+# What rt ci says where all is well, and where an edit is bad beside that.
+WELL = "rt: ok; handles allowed: none; must-fail edits: 9 refused; all is done"
+BAD_EDIT = "rt: ok; handles allowed: none; must-fail edits: 8 refused, 1 of them only by a limit, 1 bad; all is done"
 
 
 def files(names):
@@ -79,11 +82,11 @@ def fresh(folder):
     return project / "outside"
 
 
-def gated(bad):
-    """The gate's status and last line where rt and all test files pass, but for some that hold another text."""
+def gated(bad, said=WELL, counts="1 passed, 0 failed", status=0):
+    """The gate's status and last line where rt and all test files pass, but for what is given: texts of test files, what rt says, its end."""
     with tempfile.TemporaryDirectory() as folder:
         lay_tools(folder, ("cargo", "rustc", "cc", "nm"))
-        (Path(folder) / "rt").write_text("#!/bin/sh\necho 1 passed, 0 failed\n")
+        (Path(folder) / "rt").write_text(f"#!/bin/sh\necho '{said}'\necho '{counts}'\nexit {status}\n")
         (Path(folder) / "rt").chmod(0o755)
         outside = fresh(folder)
         for name in gate.EXPECTED:
@@ -99,7 +102,11 @@ def noticed_failures():
     bad = {first: 'print("1 passed, 2 failed")', second: PASSES + "raise SystemExit(3)", third: "raise SystemExit(3)", last: ""}
     count = len(gate.EXPECTED) + 1
     return [("all tests pass", gated({}) == (0, f"{count} passed, 0 failed")),
-            ("four tests fail", gated(bad) == (1, f"{count - 2} passed, 5 failed"))]
+            ("four tests fail", gated(bad) == (1, f"{count - 2} passed, 5 failed")),
+            ("an edit is bad", gated({}, BAD_EDIT) == (1, f"{count} passed, 1 failed")),
+            ("rt ci does not say that all is well", gated({}, "rt: well") == (1, f"{count} passed, 1 failed")),
+            ("a crate fails", gated({}, "rt: FAILED: wire", "2 passed, 1 failed", 1) == (1, f"{count + 1} passed, 2 failed")),
+            ("rt ci ends badly", gated({}, status=2) == (1, f"{count} passed, 1 failed"))]
 
 
 def main():

@@ -43,7 +43,6 @@ impl Listing {
     }
 
     /// Hears a whole capture; lines that can't be printed don't keep it from the track.
-    /// An input that breaks in a record is not cut: where the capture ends is not known.
     pub fn hear_all(&mut self, input: &mut impl Read, lines: &mut impl Write) -> io::Result<()> {
         let mut told = Ok(());
         loop {
@@ -52,7 +51,7 @@ impl Listing {
             if got == RECORD {
                 let line = self.hear(&record);
                 told = told.and_then(|()| lines.write_all(line.as_bytes()));
-            } else if got > 0 && ended.is_ok() {
+            } else if got > 0 {
                 told = told.and_then(|()| lines.write_all(b"cut\n"));
             }
             if got < RECORD {

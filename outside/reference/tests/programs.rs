@@ -90,12 +90,12 @@ impl Read for Broken {
 }
 
 #[test]
-fn an_input_that_breaks_in_a_record_is_not_cut() {
+fn an_input_that_breaks_in_a_record_is_cut() {
     let mut listing = Listing::open(Some(&wanted())).expect("a good name");
     let (capture, mut lines) = (listed(), Vec::new());
     let ended = listing.hear_all(&mut capture[..1_472 + 100].chain(Broken), &mut lines);
     assert!(ended.is_err());
-    assert_eq!(lines, b"0 0 0 1 0\n");
+    assert_eq!(lines, b"0 0 0 1 0\ncut\n");
 }
 
 #[test]
