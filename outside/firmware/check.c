@@ -465,6 +465,13 @@ static tashmirok_tally *the_tally(void)
     return (tashmirok_tally *)(void *)bytes(&tally);
 }
 
+static void check_sizes(void)
+{
+    EXPECT(tashmirok_take_size() > 16 + 4 && tashmirok_take_size() <= MOST);
+    EXPECT(tashmirok_tally_size() >= 17 * 4 && tashmirok_tally_size() <= MOST);
+    EXPECT(tashmirok_take_size() == tashmirok_take_size());
+}
+
 /* A track of garbage and a take opened on it, at places that nothing is aligned to. */
 static uint8_t opening(const uint8_t *named, uint32_t address, size_t length)
 {
@@ -725,6 +732,7 @@ int main(void)
     check_write();
     check_cut();
     check_most_packets();
+    check_sizes();
     check_open();
     check_listing();
     check_refusals();

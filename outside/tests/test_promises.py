@@ -17,7 +17,7 @@ def declares(text, name, suffix):
     """Whether a file declares a name: a signature, record, data type or field of antt, or a function or type of Rattle."""
     word = re.escape(name)
     if suffix == ".rt":
-        return re.search(rf"^\s*(?:#\[\w+\]\s*)?(?:pub )?(?:extern \"C\" )?(?:fn|struct|enum) {word}\b", text, re.M) is not None
+        return re.search(rf"^\s*(?:#\[\w+\]\s*)?pub (?:extern \"C\" )?(?:fn|struct|enum) {word}\b", text, re.M) is not None
     return re.search(rf"^\s*(?:(?:abbrev|unfoldable|pub) )*(?:(?:record|data|ruleset) )?{word}(?= |$)", text, re.M) is not None
 
 
