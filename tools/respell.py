@@ -1,6 +1,6 @@
 #!/usr/bin/env python3
 """Brings this repository's own names of definitions and lemmas, as port.py leaves them, to today's spelling: words in snake case, types in
-camel case. Run once, at the top, after /opt/rattle/port/port.py. Must-fail edits are turned with the files that they edit.
+camel case. Run once, at the top, after the kit's port.py. Must-fail edits are turned with the files that they edit.
 
 usage: python3 tools/respell.py [--list]      --list: print the names and write nothing
 """
