@@ -23,9 +23,9 @@ WORK = TARGET / "differential"
 
 def chosen():
     parser = arguments(__doc__)
-    parser.add_argument("--takes", type=int, default=1000)
-    parser.add_argument("--cuts", type=int, default=1000)
-    parser.add_argument("--histories", type=int, default=500)
+    parser.add_argument("--takes", type=int, default=1080)
+    parser.add_argument("--cuts", type=int, default=1080)
+    parser.add_argument("--histories", type=int, default=520)
     parser.add_argument("--seed", type=int, default=1)
     return parser.parse_args()
 

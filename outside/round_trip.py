@@ -23,6 +23,8 @@ CAPTURED = 1472
 SIZES = (1, 2, 3, 4)
 LINE = re.compile(rb"^(\d+) (\d+) (\d+) (\d+) (\d+)$", re.M)
 WORK = TARGET / "differential" / "histories"
+# From this history on every second one is of a sender of many packets.
+LONG = 500
 
 
 @dataclass
@@ -69,12 +71,12 @@ def slot(chance):
                           chance.randint(-2 ** 23, 2 ** 23 - 1)))
 
 
-def make_sender(chance):
-    """Any sender; now and then a track longer than the box's, so that packets don't fit, some of them with over 1,000 packets."""
+def make_sender(chance, many=False):
+    """Any sender, or one of over 1,000 packets; now and then a track longer than the box's, so that packets don't fit."""
     data_type, channels = chance.randint(0, 3), chance.randint(1, 8)
     largest = min(256, 1436 // (channels * SIZES[data_type]))
-    n = chance.choice((1, chance.randint(1, min(12, largest)), chance.randint(1, largest), largest))
-    long = chance.random() < (0.4 if n >= 32 else 0.02)
+    n = chance.choice((1, 2) if many else (1, chance.randint(1, min(12, largest)), chance.randint(1, largest), largest))
+    long = many or n >= 32 and chance.random() < 0.4
     total = RECORDS + chance.randint(1, 900) if long else chance.randint(1, min(40 * n, 300))
     near = chance.choice((0, 2 ** 31, 2 ** 32, chance.randrange(2 ** 32)))
     length = chance.randint(1, 16)
@@ -194,7 +196,7 @@ def lay_out(chance, records, heard):
 def one(seed, number, takelist, cutlist):
     """One history; gives what went wrong, or nothing."""
     chance = random.Random(f"{seed} {number}")
-    sender = make_sender(chance)
+    sender = make_sender(chance, number >= LONG and number % 2 == 0)
     folder = WORK / f"{number:05}"
     records = cut(sender, cutlist, folder)
     if records is None or len(records) != sender.packets():

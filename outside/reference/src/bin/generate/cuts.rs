@@ -98,12 +98,6 @@ fn put_job(random: &mut Random, packet: &Packet, case: &mut Case) {
 pub fn any(mut random: Random) -> Case {
     let mut packet = form(&mut random);
     let mut count = records(&mut random, packet.header.frames);
-    // Packets about the borders of cutlist's blocks, which have 44.
-    let is_long = random.chance(4);
-    if is_long {
-        packet.header.frames = packet.header.frames.min(6);
-        count = usize::from(packet.header.frames) * random.pick(&[44, 45, 88, 89, 133]);
-    }
     if random.chance(20) {
         spoil(&mut random, &mut packet);
         count = count.min(60);
@@ -111,9 +105,25 @@ pub fn any(mut random: Random) -> Case {
     if random.chance(20) {
         packet.header.name = samples::garbage_after(&mut random, packet.header.name);
     }
-    if count > 300 && !is_long {
+    if count > 300 {
         packet.header.frames = packet.header.frames.max(32).min(packet.most_frames());
     }
+    finish(random, packet, count)
+}
+
+/// A case of packets about the borders of cutlist's blocks, which have 44.
+pub fn long(mut random: Random) -> Case {
+    let mut packet = form(&mut random);
+    packet.header.frames = packet.header.frames.min(6);
+    let count = usize::from(packet.header.frames) * random.pick(&[44, 45, 88, 89, 133]);
+    if random.chance(20) {
+        packet.header.name = samples::garbage_after(&mut random, packet.header.name);
+    }
+    finish(random, packet, count)
+}
+
+/// The case of a track of so many records, with its job file, and now and then an older capture.
+fn finish(mut random: Random, packet: Packet, count: usize) -> Case {
     let mut input = track(&mut random, count, packet.header.data_type);
     if random.chance(12) {
         let more = random.count_between(1, RECORD - 1);

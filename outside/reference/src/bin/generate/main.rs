@@ -15,6 +15,9 @@ use case::Case;
 use counts::Counts;
 use reference::hostile::random::Random;
 
+/// From this case on every second one is long.
+const LONG: usize = 1000;
+
 /// Which program the cases are for.
 #[derive(Clone, Copy)]
 enum Kind {
@@ -47,10 +50,13 @@ fn order() -> Option<Order> {
 /// Case by index: the sweeps come first, so that every run of some length has them.
 fn case_of(kind: Kind, seed: u64, index: usize) -> Case {
     let random = Random::new(seed, u64::try_from(index).unwrap_or(u64::MAX));
+    let is_long = index >= LONG && index % 2 == 0;
     match kind {
         Kind::Takes if index < sweeps::COUNT => sweeps::case(index, random),
+        Kind::Takes if is_long => takes::long(random),
         Kind::Takes => takes::any(random),
         Kind::Cuts if index < cuts::SWEEPS => cuts::sweep(index, random),
+        Kind::Cuts if is_long => cuts::long(random),
         Kind::Cuts => cuts::any(random),
     }
 }

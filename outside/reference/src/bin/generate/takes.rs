@@ -131,20 +131,6 @@ fn hear_one(scene: &mut Scene, calm: u64) {
     scene.hear(&packet);
 }
 
-/// None to 34 records of any kind.
-fn hear_few(scene: &mut Scene) {
-    let records = match scene.random.between(0, 19) {
-        0 => 0,
-        1..=14 => scene.random.count_between(1, 9),
-        15..=18 => scene.random.count_between(10, 16),
-        _ => scene.random.count_between(17, 34),
-    };
-    let calm = scene.random.pick(&[0, 40, 60, 60, 80, 100]);
-    for index in 0..records {
-        hear_one(scene, if index == 0 { 80 } else { calm });
-    }
-}
-
 /// Records over the borders of takelist's blocks, which have 44: mostly the next packet, and of few frames, so that the track has room.
 fn hear_many(scene: &mut Scene) {
     scene.wanted.header.frames = scene.wanted.header.frames.min(6);
@@ -192,16 +178,34 @@ fn spoil_job(random: &mut Random, wanted: &Packet, case: &mut Case) {
 /// A case of any kind.
 pub fn any(random: Random) -> Case {
     let mut scene = Scene::new(random);
-    if scene.random.chance(4) {
-        hear_many(&mut scene);
-    } else {
-        hear_few(&mut scene);
+    let records = match scene.random.between(0, 19) {
+        0 => 0,
+        1..=14 => scene.random.count_between(1, 9),
+        15..=18 => scene.random.count_between(10, 16),
+        _ => scene.random.count_between(17, 34),
+    };
+    let calm = scene.random.pick(&[0, 40, 60, 60, 80, 100]);
+    for index in 0..records {
+        hear_one(&mut scene, if index == 0 { 80 } else { calm });
     }
+    cut_some(&mut scene);
+    finish(scene)
+}
+
+/// A case of many records.
+pub fn long(random: Random) -> Case {
+    let mut scene = Scene::new(random);
+    hear_many(&mut scene);
+    cut_some(&mut scene);
+    finish(scene)
+}
+
+/// Now and then a last record that is cut.
+fn cut_some(scene: &mut Scene) {
     if scene.random.chance(25) {
         let left = scene.random.count_between(1, RECORD - 1);
-        cut_last(&mut scene, left);
+        cut_last(scene, left);
     }
-    finish(scene)
 }
 
 /// The case with its job file, now and then spoilt, and now and then an older track.
