@@ -5,7 +5,7 @@ ghost use Rattle.std.specs.Prelude.{◌≡◌};
 ghost use Rattle.answers.specs.Numbers.{number_of, number_made, count_of};
 
 // What reading, opening and following answer.
-#[derive(Clone, Copy)]
+#[derive(Clone, Copy, Debug, PartialEq, Eq)]
 pub enum Answer {
     Accepted,
     Short,
@@ -27,7 +27,7 @@ pub enum Answer {
 }
 
 // What converting, writing and cutting answer.
-#[derive(Clone, Copy)]
+#[derive(Clone, Copy, Debug, PartialEq, Eq)]
 pub enum Made {
     Done,
     Form,
@@ -38,27 +38,29 @@ pub enum Made {
     Sample,
 }
 
-pub fn number(a: Answer) -> u8
-    ensures { result ≡ number_of a }
-{
-    match a {
-        Answer::Accepted => 0,
-        Answer::Short => 1,
-        Answer::Long => 2,
-        Answer::Foreign => 3,
-        Answer::Name => 4,
-        Answer::OtherStream => 5,
-        Answer::SubProtocol => 6,
-        Answer::Codec => 7,
-        Answer::Reserved => 8,
-        Answer::Rate => 9,
-        Answer::DataType => 10,
-        Answer::Length => 11,
-        Answer::Channels => 12,
-        Answer::Shape => 13,
-        Answer::Late => 14,
-        Answer::Beyond => 15,
-        Answer::State => 16,
+impl From<Answer> for u8 {
+    ghost from_gives = { λ a n. n ≡ number_of a };
+
+    fn from(answer: Answer) -> u8 {
+        match answer {
+            Answer::Accepted => 0,
+            Answer::Short => 1,
+            Answer::Long => 2,
+            Answer::Foreign => 3,
+            Answer::Name => 4,
+            Answer::OtherStream => 5,
+            Answer::SubProtocol => 6,
+            Answer::Codec => 7,
+            Answer::Reserved => 8,
+            Answer::Rate => 9,
+            Answer::DataType => 10,
+            Answer::Length => 11,
+            Answer::Channels => 12,
+            Answer::Shape => 13,
+            Answer::Late => 14,
+            Answer::Beyond => 15,
+            Answer::State => 16,
+        }
     }
 }
 
@@ -69,19 +71,33 @@ pub const COUNTS: usize = 17;
 pub fn count(number: u8) -> usize
     ensures { result ≡ count_of number }
 {
-    number as usize
+    usize::from(number)
+}
+
+impl From<Made> for u8 {
+    ghost from_gives = { λ m n. n ≡ number_made m };
+
+    fn from(made: Made) -> u8 {
+        match made {
+            Made::Done => 0,
+            Made::Form => 20,
+            Made::Big => 21,
+            Made::Data => 22,
+            Made::Room => 23,
+            Made::Number => 24,
+            Made::Sample => 26,
+        }
+    }
+}
+
+pub fn number(a: Answer) -> u8
+    ensures { result ≡ number_of a }
+{
+    u8::from(a)
 }
 
 pub fn number_made(m: Made) -> u8
     ensures { result ≡ number_made m }
 {
-    match m {
-        Made::Done => 0,
-        Made::Form => 20,
-        Made::Big => 21,
-        Made::Data => 22,
-        Made::Room => 23,
-        Made::Number => 24,
-        Made::Sample => 26,
-    }
+    u8::from(m)
 }

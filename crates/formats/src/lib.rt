@@ -5,7 +5,7 @@ ghost use Rattle.std.specs.Prelude.{◌≡◌, ◌≤◌};
 ghost use Rattle.formats.specs.Formats.{format_of, may_read, may_send, may_convert, whole_size, size_of, size_at, width_of, lowest_of, highest_of, middle_of, has};
 
 // The whole numbers, each with its own size, width, lowest and highest number.
-#[derive(Clone, Copy)]
+#[derive(Clone, Copy, Debug, PartialEq, Eq)]
 pub enum Integer {
     Unsigned8,
     Signed16,
@@ -14,7 +14,7 @@ pub enum Integer {
 }
 
 // A data type: a whole number, or another that is recognised and refused.
-#[derive(Clone, Copy)]
+#[derive(Clone, Copy, Debug, PartialEq, Eq)]
 pub enum Format {
     Whole(Integer),
     Other,
@@ -96,6 +96,20 @@ impl Integer {
     }
 }
 
+impl From<u8> for Format {
+    ghost from_gives = { λ t f. f ≡ format_of t };
+
+    fn from(t: u8) -> Format {
+        match t {
+            0 => Format::Whole(Integer::Unsigned8),
+            1 => Format::Whole(Integer::Signed16),
+            2 => Format::Whole(Integer::Signed24),
+            3 => Format::Whole(Integer::Signed32),
+            _ => Format::Other,
+        }
+    }
+}
+
 impl Format {
     // The highest index of a type that may be read, be sent and be converted.
     const LAST_READ: u8 = 3;
@@ -107,13 +121,7 @@ impl Format {
     pub fn of_index(t: u8) -> Format
         ensures { result ≡ format_of t }
     {
-        match t {
-            0 => Format::Whole(Integer::Unsigned8),
-            1 => Format::Whole(Integer::Signed16),
-            2 => Format::Whole(Integer::Signed24),
-            3 => Format::Whole(Integer::Signed32),
-            _ => Format::Other,
-        }
+        Format::from(t)
     }
 
     pub fn may_read(t: u8) -> bool

@@ -1,5 +1,6 @@
 pub mod Branches
 pub mod Tables
+pub mod Checked
 pub mod Rules
 pub mod Lists
 pub mod Loops

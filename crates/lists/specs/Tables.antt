@@ -1,5 +1,5 @@
 -- A table of checks in the paper's order: the first that refuses gives its answer.
-use Rattle.std.specs.Prelude.{ℕ, ◌≡◌, List, [], ◌∷◌, ◌++◌, Bool, true, false, not, ltb, eqb}
+use Rattle.std.specs.Prelude.{ℕ, ◌≡◌, List, [], ◌∷◌, ◌++◌, Bool, true, false, not, ltb, eqb, Result, Ok, Err}
 
 -- a where the test holds, else b
 abbrev pub choose : {A : Type 0} → Bool → A → A → A
@@ -18,6 +18,16 @@ row a b = record { says = a; refuses = b }
 abbrev pub first : {A : Type 0} → A → List (Row A) → A
 first passed [] = passed
 first passed (r ∷ rest) = choose r.refuses r.says (first passed rest)
+
+-- the same as a result: what the first row that refuses says, as an error
+abbrev pub checked : {A : Type 0} → List (Row A) → Result (Unit {0}) A
+checked [] = Ok tt
+checked (r ∷ rest) = choose r.refuses (Err r.says) (checked rest)
+
+-- what a result tells: its error, or `passed` where there is none
+abbrev pub told : {A : Type 0} → A → Result (Unit {0}) A → A
+told passed (Ok u) = passed
+told passed (Err a) = a
 
 -- one of the tests holds
 abbrev pub any : List Bool → Bool

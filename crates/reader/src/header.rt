@@ -1,8 +1,7 @@
 // The header alone: its 28 bytes checked and read.
 ghost use Rattle.std.specs.Prelude.{◌≡◌, ◌*◌, ◌^◌, ◌≤◌, ◌<◌, length};
-ghost use Rattle.lists.specs.Tables.{first};
+ghost use Rattle.lists.specs.Tables.{checked};
 ghost use Rattle.formats.specs.Formats.{size_at};
-ghost use Rattle.answers.specs.declared.Answer.TheVariants.{Accepted};
 ghost use Rattle.wire_rules.specs.Header.{header_size, header_of, no_header, data_size, foreign, mark_rows, bit_rows, field_rows, header_rows, header_alone};
 ghost use Rattle.reader.specs.Unnamed.{unnamed};
 
@@ -18,60 +17,57 @@ pub(crate) fn is_foreign(d: &[u8]) -> bool
 }
 
 // Rows 3 and 4.
-fn mark_refusal(d: &[u8]) -> Answer
+fn check_mark(d: &[u8]) -> Result<(), Answer>
     requires { header_size ≤ length d.now }
-    ensures { result ≡ first Accepted (mark_rows d.now) }
+    ensures { result ≡ checked (mark_rows d.now) }
 {
     if is_foreign(d) {
-        return Answer::Foreign;
+        return Err(Answer::Foreign);
     }
     if !wire::name::good(&d[8..24]) {
-        return Answer::Name;
+        return Err(Answer::Name);
     }
-    Answer::Accepted
+    Ok(())
 }
 
 // Rows 6 to 10, by bytes 4 and 7.
-fn bit_refusal(four: u8, seven: u8) -> Answer
-    ensures { result ≡ first Accepted (bit_rows four seven) }
+fn check_bits(four: u8, seven: u8) -> Result<(), Answer>
+    ensures { result ≡ checked (bit_rows four seven) }
 {
     // Bytes that hold a rate and a type alone: no row refuses them.
     if four <= 20 && Format::may_read(seven) {
-        return Answer::Accepted;
+        return Ok(());
     }
     if wire::bits::sub_protocol(four) != 0 {
-        return Answer::SubProtocol;
+        return Err(Answer::SubProtocol);
     }
     if wire::bits::codec(seven) != 0 {
-        return Answer::Codec;
+        return Err(Answer::Codec);
     }
     if wire::bits::reserved(seven) != 0 {
-        return Answer::Reserved;
+        return Err(Answer::Reserved);
     }
     if wire::bits::rate(four) > 20 {
-        return Answer::Rate;
+        return Err(Answer::Rate);
     }
     if !Format::may_read(wire::bits::format(seven)) {
-        return Answer::DataType;
+        return Err(Answer::DataType);
     }
-    Answer::Accepted
+    Ok(())
 }
 
-pub(crate) fn field_refusal(d: &[u8]) -> Answer
-    ensures { result ≡ first Accepted (field_rows d.now) }
+pub(crate) fn check_fields(d: &[u8]) -> Result<(), Answer>
+    ensures { result ≡ checked (field_rows d.now) }
 {
-    bit_refusal(lists::at(d, 4), lists::at(d, 7))
+    check_bits(lists::at(d, 4), lists::at(d, 7))
 }
 
-fn refusal(d: &[u8]) -> Answer
+fn check(d: &[u8]) -> Result<(), Answer>
     requires { header_size ≤ length d.now }
-    ensures { result ≡ first Accepted (header_rows d.now) }
+    ensures { result ≡ checked (header_rows d.now) }
 {
-    let a = mark_refusal(d);
-    if answers::number(a) != 0 {
-        return a;
-    }
-    field_refusal(d)
+    check_mark(d)?;
+    check_fields(d)
 }
 
 // A header without its name, which following has looked at before.
@@ -122,16 +118,15 @@ pub fn alone(d: &[u8]) -> HeaderRead
     requires { header_size ≤ length d.now }
     ensures { result ≡ header_alone d.now }
 {
-    let a = refusal(d);
-    if answers::number(a) != 0 {
-        return HeaderRead {
-            answer: a,
+    match check(d) {
+        Ok(()) => HeaderRead {
+            answer: Answer::Accepted,
+            header: fields(d),
+        },
+        Err(answer) => HeaderRead {
+            answer,
             header: none(),
-        };
-    }
-    HeaderRead {
-        answer: a,
-        header: fields(d),
+        },
     }
 }
 

@@ -1,7 +1,6 @@
 // Reading a datagram.
 ghost use Rattle.std.specs.Prelude.{◌≡◌, ◌+◌, length, ltb};
-ghost use Rattle.lists.specs.Tables.{first, unlike};
-ghost use Rattle.answers.specs.declared.Answer.TheVariants.{Accepted};
+ghost use Rattle.lists.specs.Tables.{checked, unlike};
 ghost use Rattle.wire_rules.specs.Header.{header_size, datagram_most, header_of, data_size};
 ghost use Rattle.wire_rules.specs.Read.{lead_rows, front_rows, length_rows, audio_rows, read_rows, read_of};
 
@@ -21,81 +20,73 @@ fn is_inexact(d: &[u8]) -> bool
 }
 
 // Rows 1 to 3.
-pub fn lead_refusal(d: &[u8]) -> Answer
-    ensures { result ≡ first Accepted (lead_rows d.now) }
+pub fn check_lead(d: &[u8]) -> Result<(), Answer>
+    ensures { result ≡ checked (lead_rows d.now) }
 {
     if d.len() < HEADER {
-        return Answer::Short;
+        return Err(Answer::Short);
     }
     if is_long(d) {
-        return Answer::Long;
+        return Err(Answer::Long);
     }
     if crate::header::is_foreign(d) {
-        return Answer::Foreign;
+        return Err(Answer::Foreign);
     }
-    Answer::Accepted
+    Ok(())
 }
 
 // Rows 1 to 4.
-fn front_refusal(d: &[u8]) -> Answer
-    ensures { result ≡ first Accepted (front_rows d.now) }
+fn check_front(d: &[u8]) -> Result<(), Answer>
+    ensures { result ≡ checked (front_rows d.now) }
 {
-    let a = lead_refusal(d);
-    if answers::number(a) != 0 {
-        return a;
-    }
+    check_lead(d)?;
     if !wire::name::good(&d[8..24]) {
-        return Answer::Name;
+        return Err(Answer::Name);
     }
-    Answer::Accepted
+    Ok(())
 }
 
-fn length_refusal(d: &[u8]) -> Answer
-    ensures { result ≡ first Accepted (length_rows d.now) }
+fn check_length(d: &[u8]) -> Result<(), Answer>
+    ensures { result ≡ checked (length_rows d.now) }
 {
     if is_inexact(d) {
-        return Answer::Length;
+        return Err(Answer::Length);
     }
-    Answer::Accepted
+    Ok(())
 }
 
 // Rows 6 to 11.
-pub fn audio_refusal(d: &[u8]) -> Answer
-    ensures { result ≡ first Accepted (audio_rows d.now) }
+pub fn check_audio(d: &[u8]) -> Result<(), Answer>
+    ensures { result ≡ checked (audio_rows d.now) }
 {
-    let a = crate::header::field_refusal(d);
-    if answers::number(a) != 0 {
-        return a;
-    }
-    length_refusal(d)
+    crate::header::check_fields(d)?;
+    check_length(d)
 }
 
-fn refusal(d: &[u8]) -> Answer
-    ensures { result ≡ first Accepted (read_rows d.now) }
+fn check(d: &[u8]) -> Result<(), Answer>
+    ensures { result ≡ checked (read_rows d.now) }
 {
-    let a = front_refusal(d);
-    if answers::number(a) != 0 {
-        return a;
-    }
-    audio_refusal(d)
+    check_front(d)?;
+    check_audio(d)
 }
 
 // The first check that refuses gives its answer; else the header and the number of data bytes, which start at byte 28.
 pub fn read(d: &[u8]) -> Read
     ensures { result ≡ read_of d.now }
 {
-    let a = refusal(d);
-    if answers::number(a) != 0 {
-        return Read {
-            answer: a,
+    match check(d) {
+        Ok(()) => {
+            let header = crate::header::fields(d);
+            Read {
+                answer: Answer::Accepted,
+                header,
+                size: crate::header::data_size(header),
+            }
+        }
+        Err(answer) => Read {
+            answer,
             header: crate::header::none(),
             size: 0,
-        };
-    }
-    let header = crate::header::fields(d);
-    Read {
-        answer: a,
-        header,
-        size: crate::header::data_size(header),
+        },
     }
 }

@@ -1,7 +1,9 @@
 // Each wire type's sample as a slot, and a slot as each wire type's sample, bits to bits: the track's loops call these.
-ghost use Rattle.std.specs.Prelude.{◌≡◌, ◌+◌, ◌-◌, ◌%◌, ◌^◌, ◌≤◌, ◌<◌};
+ghost use Rattle.std.specs.Prelude.{◌≡◌, ℕ, ◌+◌, ◌-◌, ◌%◌, ◌^◌, ◌≤◌, ◌<◌, length, refl};
 ghost use Rattle.std.proofs.Math.IntN.{sub_ℕ};
-ghost use Rattle.formats.specs.Formats.{unsigned8, signed16, signed24, signed32};
+ghost use Rattle.lists.specs.Little.{little, bytes_of};
+ghost use Rattle.formats.specs.declared.Format.{Format};
+ghost use Rattle.formats.specs.Formats.{unsigned8, signed16, signed24, signed32, size_of};
 ghost use Rattle.sample_rules.specs.Convert.{rank, rescaled};
 ghost use Rattle.sample_rules.specs.Bits.{signed_of, bits_of, slot_of, sent_of};
 
@@ -85,4 +87,148 @@ pub fn to_signed32(s: u32) -> u32
     ensures { result ≡ sent_of signed32 s }
 {
     moved(s, 24, 32)
+}
+
+// A data type whose samples have slots, and how its samples lie in bytes. What is the same for all types is written once, over this.
+pub trait Sample {
+    ghost format: { Format };
+
+    // The bytes of a sample.
+    ghost SIZE: { ℕ };
+
+    const SIZE: usize;
+
+    // The sample at byte `a`, as its bits.
+    fn get(d: &[u8], a: usize) -> u32
+        requires { a + SIZE ≤ length d.now }
+        ensures { (result ≡ little SIZE d.now a) × (result < 256 ^ SIZE) };
+
+    // A sample's bits, as bytes.
+    fn put(out: &mut [u8], u: u32)
+        requires { (length out.old ≡ SIZE) × (u < 256 ^ SIZE) }
+        ensures { out.new ≡ bytes_of SIZE u };
+
+    // The slot of a sample.
+    fn slot(u: u32) -> u32
+        requires { u < 256 ^ SIZE }
+        ensures { (result ≡ slot_of format u) × (result < 2 ^ 24) };
+
+    // A slot as a sample.
+    fn sent(s: u32) -> u32
+        requires { s < 2 ^ 24 }
+        ensures { (result ≡ sent_of format s) × (result < 256 ^ SIZE) };
+
+    ghost sized: { SIZE ≡ size_of format };
+}
+
+pub struct Unsigned8;
+
+impl Sample for Unsigned8 {
+    ghost format = { unsigned8 };
+
+    ghost SIZE = { 1 };
+
+    ghost sized = { refl };
+
+    const SIZE: usize = 1;
+
+    fn get(d: &[u8], a: usize) -> u32 {
+        words::get1(d, a)
+    }
+
+    fn put(out: &mut [u8], u: u32) {
+        words::put1(out, u)
+    }
+
+    fn slot(u: u32) -> u32 {
+        from_unsigned8(u)
+    }
+
+    fn sent(s: u32) -> u32 {
+        to_unsigned8(s)
+    }
+}
+
+pub struct Signed16;
+
+impl Sample for Signed16 {
+    ghost format = { signed16 };
+
+    ghost SIZE = { 2 };
+
+    ghost sized = { refl };
+
+    const SIZE: usize = 2;
+
+    fn get(d: &[u8], a: usize) -> u32 {
+        words::get2(d, a)
+    }
+
+    fn put(out: &mut [u8], u: u32) {
+        words::put2(out, u)
+    }
+
+    fn slot(u: u32) -> u32 {
+        from_signed16(u)
+    }
+
+    fn sent(s: u32) -> u32 {
+        to_signed16(s)
+    }
+}
+
+pub struct Signed24;
+
+impl Sample for Signed24 {
+    ghost format = { signed24 };
+
+    ghost SIZE = { 3 };
+
+    ghost sized = { refl };
+
+    const SIZE: usize = 3;
+
+    fn get(d: &[u8], a: usize) -> u32 {
+        words::get3(d, a)
+    }
+
+    fn put(out: &mut [u8], u: u32) {
+        words::put3(out, u)
+    }
+
+    fn slot(u: u32) -> u32 {
+        from_signed24(u)
+    }
+
+    fn sent(s: u32) -> u32 {
+        to_signed24(s)
+    }
+}
+
+pub struct Signed32;
+
+impl Sample for Signed32 {
+    ghost format = { signed32 };
+
+    ghost SIZE = { 4 };
+
+    ghost sized = { refl };
+
+    const SIZE: usize = 4;
+
+    fn get(d: &[u8], a: usize) -> u32 {
+        words::get4(d, a)
+    }
+
+    fn put(out: &mut [u8], u: u32) {
+        words::put4(out, u)
+    }
+
+    fn slot(u: u32) -> u32 {
+        from_signed32(u)
+    }
+
+    fn sent(s: u32) -> u32 {
+        to_signed32(s)
+    }
 }

@@ -1,27 +1,18 @@
 -- A refusal, or the fields.
-use mathlib.Core.Path.{◌≡◌, sym, ◌∙◌}
-use mathlib.Core.List.{List}
-use Prim.Native.Nat.{ℕ}
-use borrow.Author.Tests.{eq-eqb, ne_eqb}
-use Rattle.lists.specs.Tables.{first}
-use Rattle.answers.specs.declared.Answer.{Answer}
+use mathlib.Core.Path.{sym, ◌∙◌}
+use Rattle.lists.proofs.Checked.{first_ok, first_err}
 use Rattle.answers.specs.declared.Answer.TheVariants.{Accepted}
-use Rattle.answers.specs.Numbers.{number_of}
-use Rattle.wire_rules.specs.declared.Header.{Header}
-use Rattle.wire_rules.specs.Header.{header_of, no_header, header_rows, header_alone}
+use Rattle.wire_rules.specs.Header.{header_rows, header_alone}
+use Rattle.reader.proofs.Rows.{refused_number}
 use Rattle.reader.proofs.header.alone.Goals as goal
 
-module _ (d : List ℕ) (a : Answer) (n : ℕ) (h : Header) (q : n ≡ number_of a) (e : a ≡ first Accepted (header_rows d)) where
-  refused : (n ≡ 0 → ⊥) → h ≡ no_header → record { answer = a; header = h } ≡ header_alone d
-  unfolding header_alone
-  refused z p = rw (← e, ne_eqb (number_of a) 0 (λ t. z (q ∙ t)), p)
+pub returns-in-Ok : goal.returns-in-Ok
+unfolding header_alone
+returns-in-Ok c = rw (first_ok Accepted (header_rows c.args.d.now) (sym c.in-Ok.is ∙ c.check.ensures), c.fields.ensures)
 
-  accepted : n ≡ 0 → h ≡ header_of d → record { answer = a; header = h } ≡ header_alone d
-  unfolding header_alone
-  accepted z p = rw (← e, eq-eqb (number_of a) 0 (sym q ∙ z), p)
-
-pub returns-then-number-ne0 : goal.returns-then-number-ne0
-returns-then-number-ne0 c = search refused
-
-pub returns : goal.returns
-returns c = search accepted
+pub returns-in-Err : goal.returns-in-Err
+unfolding header_alone
+returns-in-Err c =
+    let rows = header_rows c.args.d.now in
+    let e = sym c.in-Err.is ∙ c.check.ensures in
+    rw (first_err Accepted rows _ e, refused_number rows _ tt e, c.none.ensures)

@@ -1,7 +1,7 @@
 -- Each test is a row of the table.
 use Rattle.lists.proofs.Branches.{flag_yes, flag_no}
 use Rattle.reader.proofs.Rows.{negated}
-use Rattle.reader.proofs.header.mark_refusal.Goals as goal
+use Rattle.reader.proofs.header.check_mark.Goals as goal
 
 ruleset rows = (negated, flag_yes, flag_no)
 

@@ -1,6 +1,6 @@
 -- Each test is a row.
 use Rattle.lists.proofs.Branches.{flag_yes, flag_no, less_yes, less_no}
-use Rattle.reader.proofs.read.lead_refusal.Goals as goal
+use Rattle.reader.proofs.read.check_lead.Goals as goal
 
 ruleset tests = (flag_yes, flag_no, less_yes, less_no)
 

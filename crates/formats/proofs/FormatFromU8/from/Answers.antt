@@ -2,7 +2,7 @@
 use Rattle.std.proofs.Common.{ℕ, ◌≡◌, ◌<◌, sym, ap, arith, ne_eqb}
 use Rattle.formats.specs.declared.Format.TheVariants.{Other}
 use Rattle.formats.specs.Formats.{format_of}
-use Rattle.formats.proofs.Format.of_index.Goals as goal
+use Rattle.formats.proofs.FormatFromU8.from.Goals as goal
 
 other : (t : ℕ) → 3 < t → Other ≡ format_of t
 unfolding format_of
