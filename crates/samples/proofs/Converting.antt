@@ -7,7 +7,7 @@ use lib.Signed.{mag}
 use mir.Syntax.{w64}
 use mir.Val.{SFits}
 use mir.Facts.{to_z-of_z}
-use borrow.Author.Tests.{not-true, not-false}
+use borrow.Author.Tests.{not-false}
 use Rattle.answers.specs.declared.Made.{Made}
 use Rattle.answers.specs.declared.Made.TheVariants.{Done, Form, Sample}
 use Rattle.formats.specs.declared.Integer.{Integer}
@@ -24,37 +24,32 @@ use Rattle.sample_rules.proofs.Converts.{convert_nearest}
 abbrev refusal : Made → Converted
 refusal a = record { answer = a; value = pos 0 }
 
+-- a type that may be converted is known
+pub no_other : (t : ℕ) (b : Bool) → b ≡ may_convert t → not b ≡ false → (i : Format) → i ≡ format_of t → i ≡ Other → may_convert t ≡ false
+no_other t b e l i p q = absurd (convert_known t (convert_by t (sym e ∙ not-false b l)) (sym p ∙ q))
+
+-- the answers in the code's order
 module _ (from to : ℕ) (n : ℤ) where
-  -- the answers in the code's order
-  pub bad_from : (b : Bool) (r : Converted) → b ≡ may_convert from → not b ≡ true → r ≡ refusal Form → r ≡ convert_of from to n
+  pub bad_from : may_convert from ≡ false → refusal Form ≡ convert_of from to n
   unfolding convert_of
-  bad_from b r e t p = p ∙ rw (sym e ∙ not-true b t)
+  bad_from e = rw e
 
-  module _ (b : Bool) (e : b ≡ may_convert from) (t : not b ≡ false) where
-    pub bad_to : (c : Bool) (r : Converted) → c ≡ may_convert to → not c ≡ true → r ≡ refusal Form → r ≡ convert_of from to n
+  module _ (e : may_convert from ≡ true) where
+    pub bad_to : may_convert to ≡ false → refusal Form ≡ convert_of from to n
     unfolding convert_of
-    bad_to c r g s p = p ∙ rw (sym e ∙ not-false b t, sym g ∙ not-true c s)
+    bad_to g = rw (e, g)
 
-    pub unknown_from : (i : Format) (r : Converted) → i ≡ format_of from → i ≡ Other → r ≡ convert_of from to n
-    unknown_from i r p q = absurd (convert_known from (convert_by from (sym e ∙ not-false b t)) (sym p ∙ q))
+    module _ (g : may_convert to ≡ true) (f t : Integer) (p : format_of from ≡ Whole f) (q : format_of to ≡ Whole t)
+        (s : SFits w64 n) (h : Bool) (eh : h ≡ has f (Long n)) where
+      pub bad_number : h ≡ false → refusal Sample ≡ convert_of from to n
+      unfolding convert_of
+      bad_number l = rw (e, g, p, sym (rw (to_z-of_z s) at eh) ∙ l)
 
-    module _ (c : Bool) (g : c ≡ may_convert to) (s : not c ≡ false) where
-      pub unknown_to : (i : Format) (r : Converted) → i ≡ format_of to → i ≡ Other → r ≡ convert_of from to n
-      unknown_to i r p q = absurd (convert_known to (convert_by to (sym g ∙ not-false c s)) (sym p ∙ q))
-
-      module _ (i j : Format) (f v : Integer) (pi : i ≡ format_of from) (pj : j ≡ format_of to) (p : i ≡ Whole f) (q : j ≡ Whole v)
-          (s₀ : SFits w64 n) (h : Bool) (eh : h ≡ has f (Long n)) where
-        pub bad_number_is : (r : Converted) → not h ≡ true → r ≡ refusal Sample → r ≡ convert_of from to n
-        unfolding convert_of
-        bad_number_is r l w =
-            w ∙ rw (sym e ∙ not-false b t, sym g ∙ not-false c s, sym pi ∙ p, sym (rw (to_z-of_z s₀) at eh) ∙ not-true h l)
-
-        pub is_converted : (z : ℤ) → not h ≡ false → mag z < 2 ^ 63 → z ≡ converted f v (Long n) → record { answer = Done; value = Long z } ≡ convert_of from to n
-        unfolding convert_of
-        is_converted z l m w =
-            rw (back z m, w, to_z-of_z s₀, sym e ∙ not-false b t, sym g ∙ not-false c s, sym pi ∙ p, sym pj ∙ q, sym (rw (to_z-of_z s₀) at eh) ∙ not-false h l)
+      pub is_converted : h ≡ true → (z : ℤ) → mag z < 2 ^ 63 → z ≡ converted f t (Long n) → record { answer = Done; value = Long z } ≡ convert_of from to n
+      unfolding convert_of
+      is_converted l z m w = rw (back z m, w, to_z-of_z s, e, g, p, q, sym (rw (to_z-of_z s) at eh) ∙ l)
 
 -- and what is given is the nearest
 pub meets : (from to : ℕ) (n : ℤ) (r : Converted) → r ≡ convert_of from to n
-    → (r ≡ convert_of from to n) × (r.answer ≡ Done → NearestAs (format_of from) (format_of to) n r.value)
-meets from to n r e = (e, rw e (convert_nearest from to n))
+    → r.answer ≡ Done → NearestAs (format_of from) (format_of to) n r.value
+meets from to n r e = rw e (convert_nearest from to n)

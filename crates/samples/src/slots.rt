@@ -17,14 +17,7 @@ fn moved(u: u32, w: u32, v: u32) -> u32
     numbers::bits(numbers::rescale(numbers::signed(u, w), w, v), v)
 }
 
-pub fn from_unsigned8(u: u32) -> u32
-    requires { u < 2 ^ 8 }
-    ensures { (result ≡ slot_of unsigned8 u) × (result < 2 ^ 24) }
-{
-    numbers::bits(numbers::rescale(u as i32 - 128, 8, 24), 24)
-}
-
-// The same of a byte that comes less 128, as a signed one: a caller may take 128 from all the bytes of a word at once.
+// The slot of a byte that comes less 128, as a signed one: a caller may take 128 from all the bytes of a word at once.
 pub fn from_signed8(u: u32) -> u32
     requires { u < 2 ^ 8 }
     ensures { (result ≡ slot_of unsigned8 ((u + 128) % 256)) × (result < 2 ^ 24) }
@@ -32,61 +25,12 @@ pub fn from_signed8(u: u32) -> u32
     moved(u, 8, 24)
 }
 
-pub fn from_signed16(u: u32) -> u32
-    requires { u < 2 ^ 16 }
-    ensures { (result ≡ slot_of signed16 u) × (result < 2 ^ 24) }
-{
-    moved(u, 16, 24)
-}
-
-pub fn from_signed24(u: u32) -> u32
-    requires { u < 2 ^ 24 }
-    ensures { (result ≡ slot_of signed24 u) × (result < 2 ^ 24) }
-{
-    u
-}
-
-pub fn from_signed32(u: u32) -> u32
-    ensures { (result ≡ slot_of signed32 u) × (result < 2 ^ 24) }
-{
-    moved(u, 32, 24)
-}
-
-// A slot is narrowed from the top of 32 bits, where its sign stands already.
-pub fn to_unsigned8(s: u32) -> u32
-    requires { s < 2 ^ 24 }
-    ensures { (result ≡ sent_of unsigned8 s) × (result < 2 ^ 8) }
-{
-    (numbers::rescale(numbers::signed(s * 256, 32), 32, 8) + 128) as u32
-}
-
-// The same less 128, as a signed byte: a caller may add 128 to all the bytes of a word at once.
+// A slot as a byte less 128, a signed one: a caller may add 128 to all the bytes of a word at once.
 pub fn to_signed8(s: u32) -> u32
     requires { s < 2 ^ 24 }
     ensures { ((result + 128) % 256 ≡ sent_of unsigned8 s) × (result < 2 ^ 8) }
 {
     moved(s * 256, 32, 8)
-}
-
-pub fn to_signed16(s: u32) -> u32
-    requires { s < 2 ^ 24 }
-    ensures { (result ≡ sent_of signed16 s) × (result < 2 ^ 16) }
-{
-    moved(s * 256, 32, 16)
-}
-
-pub fn to_signed24(s: u32) -> u32
-    requires { s < 2 ^ 24 }
-    ensures { (result ≡ sent_of signed24 s) × (result < 2 ^ 24) }
-{
-    s
-}
-
-pub fn to_signed32(s: u32) -> u32
-    requires { s < 2 ^ 24 }
-    ensures { result ≡ sent_of signed32 s }
-{
-    moved(s, 24, 32)
 }
 
 // A data type whose samples have slots, and how its samples lie in bytes. What is the same for all types is written once, over this.
@@ -113,7 +57,7 @@ pub trait Sample {
         requires { u < 256 ^ SIZE }
         ensures { (result ≡ slot_of format u) × (result < 2 ^ 24) };
 
-    // A slot as a sample.
+    // A slot as a sample. It is narrowed from the top of 32 bits, where its sign stands already.
     fn sent(s: u32) -> u32
         requires { s < 2 ^ 24 }
         ensures { (result ≡ sent_of format s) × (result < 256 ^ SIZE) };
@@ -141,11 +85,11 @@ impl Sample for Unsigned8 {
     }
 
     fn slot(u: u32) -> u32 {
-        from_unsigned8(u)
+        from_signed8((u + 128) % 256)
     }
 
     fn sent(s: u32) -> u32 {
-        to_unsigned8(s)
+        (to_signed8(s) + 128) % 256
     }
 }
 
@@ -169,11 +113,11 @@ impl Sample for Signed16 {
     }
 
     fn slot(u: u32) -> u32 {
-        from_signed16(u)
+        moved(u, 16, 24)
     }
 
     fn sent(s: u32) -> u32 {
-        to_signed16(s)
+        moved(s * 256, 32, 16)
     }
 }
 
@@ -197,11 +141,11 @@ impl Sample for Signed24 {
     }
 
     fn slot(u: u32) -> u32 {
-        from_signed24(u)
+        u
     }
 
     fn sent(s: u32) -> u32 {
-        to_signed24(s)
+        s
     }
 }
 
@@ -225,10 +169,10 @@ impl Sample for Signed32 {
     }
 
     fn slot(u: u32) -> u32 {
-        from_signed32(u)
+        moved(u, 32, 24)
     }
 
     fn sent(s: u32) -> u32 {
-        to_signed32(s)
+        moved(s, 24, 32)
     }
 }

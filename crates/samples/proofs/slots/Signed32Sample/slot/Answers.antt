@@ -1,7 +1,7 @@
 -- What `moved` gives is the definition's, at these widths.
 use Rattle.sample_rules.specs.Convert.{converted}
 use Rattle.sample_rules.specs.Bits.{slot_of}
-use Rattle.samples.proofs.slots.from_signed16.Goals as goal
+use Rattle.samples.proofs.slots.Signed32Sample.slot.Goals as goal
 
 pub returns : goal.returns
 unfolding slot_of converted

@@ -2,7 +2,7 @@
 use mathlib.Core.Path.{sym}
 use Rattle.sample_rules.specs.Bits.{slot_of}
 use Rattle.samples.proofs.Slotting.{same_bits}
-use Rattle.samples.proofs.slots.from_signed24.Goals as goal
+use Rattle.samples.proofs.slots.Signed24Sample.slot.Goals as goal
 
 pub returns : goal.returns
 unfolding slot_of

@@ -6,7 +6,7 @@ use lib.IntN.{sub_ℕ}
 use Rattle.sample_rules.specs.Convert.{converted}
 use Rattle.sample_rules.specs.Bits.{bits_of, sent_of}
 use Rattle.samples.proofs.Aligned.{aligned}
-use Rattle.samples.proofs.slots.to_signed16.Goals as goal
+use Rattle.samples.proofs.slots.Signed16Sample.sent.Goals as goal
 
 pub returns : goal.returns
 unfolding sent_of converted
