@@ -1,4 +1,3 @@
-pub mod Parity
 pub mod Narrowing
 pub mod Aligned
 pub mod Moves

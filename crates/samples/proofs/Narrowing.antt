@@ -15,7 +15,7 @@ use mir.Val.{SFits}
 use mir.Facts.{to_z-of_z}
 use Rattle.lists.specs.Tables.{choose}
 use Rattle.sample_rules.specs.Convert.{rank, rounded_of, narrowed}
-use Rattle.formats.proofs.Machine.{Int}
+use Rattle.formats.proofs.Machine.{Long, Int, back}
 use Rattle.sample_rules.proofs.Places.{doubles, sub_le, sub_rank, rank_lt, sub_mag, plus, pos_minus}
 use Rattle.sample_rules.proofs.Rescaled.{narrowed_lt}
 use Rattle.sample_rules.proofs.Signed.{shifted, parity, less_is}
@@ -177,16 +177,12 @@ module _ (k v : ℕ) (hk : 1 ≤ k) (hv : 2 ≤ v) where
     number = to_z-of_z s ∙ sym (sub_rank B n small)
 
     module _ (p : ℤ) (ep : p ≡ pos h) where
-      less_one : Int p -ℤ pos 1 ≡ pos (h - 1)
-      less_one = rw (ep, held_pos h (omega (arith, room, some))) (pos_minus h 1 ∙ sub_le h 1 some)
+      half : Int (Long (Long p -ℤ pos 1)) ≡ pos (h - 1)
+      half =
+          rw (ep, back (pos h) (omega (arith, few, room)), pos_minus h 1 ∙ sub_le h 1 some, back (pos (h - 1)) (omega (arith, few, room)))
+          (held_pos (h - 1) (omega (arith, room, some)))
 
-      pub fits_half : SFits w32 (Int p -ℤ pos 1)
-      fits_half = rw less_one (record { sfits = omega (arith, few, room) })
-
-      half : Int (Int p -ℤ pos 1) ≡ pos (h - 1)
-      half = rw less_one (held_pos (h - 1) (omega (arith, room, some)))
-
-      module _ (z : ℤ) (ez : z ≡ pos (B - h - 1)) (m : ℤ) (em : m ≡ choose (lt_z (Int z) (Int n)) (negsuc 0) (Int (Int p -ℤ pos 1))) where
+      module _ (z : ℤ) (ez : z ≡ pos (B - h - 1)) (m : ℤ) (em : m ≡ choose (lt_z (Int z) (Int n)) (negsuc 0) (Int (Long (Long p -ℤ pos 1)))) where
         last_is : Int z ≡ sub_ℕ end B
         last_is = rw (ez, held_pos (B - h - 1) (omega (arith, room, some))) (sym (sub_le end B (omega arith) ∙ ap pos (omega arith)))
 
@@ -198,9 +194,6 @@ module _ (k v : ℕ) (hk : 1 ≤ k) (hv : 2 ≤ v) where
           | yes l ↦ rw (lt-ltb end u l, sub_le u B (omega arith), sub_le (u - 1) B (omega arith)) (sub_le (u - B) 1 (omega arith) ∙ ap pos (omega arith))
           | no l ↦ rw (le-ltb end u (omega arith), held_pos (h - 1) (omega (arith, room, some))) (plus u B (h - 1))
         ])
-
-        pub fits_sum : SFits w32 (Int n +ℤ Int m)
-        fits_sum = rw sum (fit (stepped u u_lt) (omega (arith, risen_lt u u_lt)))
 
         module _ (o : ℤ) (eo : o ≡ pos (nat_abs (Int (shr_z (Int n) P)) % 2)) where
           whole : Int (shr_z (Int n) P) ≡ sub_ℕ (u / P) b

@@ -20,9 +20,9 @@ fn between(f: Integer, t: Integer, n: i64) -> i64
     requires { has f n ≡ true }
     ensures { result ≡ converted f t n }
 {
-    let centred = (n - f.middle() as i64) as i32;
+    let centred = (n - i64::from(f.middle())) as i32;
     let x = numbers::rescale(centred, f.width(), t.width());
-    x as i64 + t.middle() as i64
+    i64::from(x) + i64::from(t.middle())
 }
 
 // The whole numbers of an index that may be converted.

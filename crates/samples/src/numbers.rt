@@ -14,14 +14,6 @@ fn power(k: u32) -> i64
     1 << k
 }
 
-// The same in 32 bits.
-fn power_small(k: u32) -> i32
-    requires { k ≤ 30 }
-    ensures { result ≡ pos (2 ^ k) }
-{
-    1 << k
-}
-
 // 1 for an odd number.
 fn odd(q: i32) -> i32
     ensures { result ≡ pos (nat_abs q % 2) }
@@ -34,7 +26,7 @@ pub fn widen(n: i32, k: u32) -> i32
     requires { (k ≤ 32) × (mag (n *ℤ pos (2 ^ k)) < 2 ^ 31) }
     ensures { result ≡ n *ℤ pos (2 ^ k) }
 {
-    (n as i64 * power(k)) as i32
+    (i64::from(n) * power(k)) as i32
 }
 
 // The last number of `w` bits that is not rounded past the highest of `w - k` bits: it lies less than half a step above.
@@ -59,7 +51,7 @@ pub fn narrow(n: i32, k: u32, v: u32) -> i32
     requires { (1 ≤ k) × (2 ≤ v) × (v + k ≤ 32) × (mag n < 2 ^ (v + k - 1)) }
     ensures { result ≡ sub_ℕ (narrowed k v (rank (2 ^ (v + k - 1)) n)) (2 ^ (v - 1)) }
 {
-    let half = half_step(n, last(v + k, k), power_small(k - 1) - 1);
+    let half = half_step(n, last(v + k, k), (power(k - 1) - 1) as i32);
     let whole = n >> k;
     let risen = n + half + odd(whole);
     risen >> k
@@ -84,7 +76,7 @@ pub fn signed(u: u32, w: u32) -> i32
 {
     let half = power(w - 1);
     let step = half as u64;
-    let x = (u as u64 + step) % (step * 2);
+    let x = (u64::from(u) + step) % (step * 2);
     (x as i64 - half) as i32
 }
 
@@ -93,7 +85,7 @@ pub fn bits(n: i32, w: u32) -> u32
     requires { (1 ≤ w) × (w ≤ 32) × (mag n < 2 ^ (w - 1)) }
     ensures { result ≡ bits_of w n }
 {
-    let m = n as i64 + power(w);
-    let step = power(w) as u64;
-    (m as u64 % step) as u32
+    let all = power(w);
+    let m = i64::from(n) + all;
+    (m as u64 % all as u64) as u32
 }

@@ -13,6 +13,7 @@ use Rattle.sample_rules.specs.Convert.{rank}
 use Rattle.sample_rules.specs.Bits.{bits_of}
 use Rattle.formats.proofs.Machine.{Long, Int, back, wider}
 use Rattle.sample_rules.proofs.Places.{placed, rank_lt}
+use Rattle.sample_rules.proofs.Bits.{bits_lt}
 use Rattle.samples.proofs.numbers.bits.Goals as goal
 
 module _ (n p : ℤ) (w : ℕ) (s : SFits w32 n) (h : (1 ≤ w) × (w ≤ 32) × (mag n < 2 ^ (w - 1))) (e : p ≡ pos (2 ^ w)) where
@@ -37,19 +38,21 @@ module _ (n p : ℤ) (w : ℕ) (s : SFits w32 n) (h : (1 ≤ w) × (w ≤ 32) ×
   whole_sum : T (non_neg (Long (Long (Int n) +ℤ Long p))) × Fits w64 (nat_abs (Long (Long (Int n) +ℤ Long p)))
   whole_sum = rw total (tt, record { fits = omega (arith, rank_lt (2 ^ w) n inside, w_le) })
 
-  module _ (q : ℤ) (f : q ≡ pos (2 ^ w)) where
-    step : Long q ≡ pos (2 ^ w)
-    step = rw (f, back (pos (2 ^ w)) (omega (arith, w_le)))
+  rest : nat_abs (Long (Long (Int n) +ℤ Long p)) % nat_abs (Long p) ≡ bits_of w n
+  unfolding bits_of
+  rest = rw (total, power)
 
-    rest : nat_abs (Long (Long (Int n) +ℤ Long p)) % nat_abs (Long q) ≡ bits_of w n
-    unfolding bits_of
-    rest = rw (total, step)
+  rest_fits : Fits w32 (nat_abs (Long (Long (Int n) +ℤ Long p)) % nat_abs (Long p))
+  rest_fits = rw rest (record { fits = omega (arith, bits_lt w h.0 n, w_le) })
 
 pub overflow_add-m : goal.overflow_add-m
-overflow_add-m c = fits_sum _ _ _ c.ranges.n c.requires c.power.ensures
+overflow_add-m c = rw c.from.ensures (fits_sum _ _ _ c.ranges.n c.requires c.power-all.ensures)
 
 pub overflow_cast-result : goal.overflow_cast-result
-overflow_cast-result c = whole_sum _ _ _ c.ranges.n c.requires c.power.ensures
+overflow_cast-result c = rw c.from.ensures (whole_sum _ _ _ c.ranges.n c.requires c.power-all.ensures)
+
+pub overflow_cast-result-3 : goal.overflow_cast-result-3
+overflow_cast-result-3 c = rw c.from.ensures (rest_fits _ _ _ c.ranges.n c.requires c.power-all.ensures)
 
 pub returns : goal.returns
-returns c = rest _ _ _ c.ranges.n c.requires c.power.ensures _ c.power-step.ensures
+returns c = rw c.from.ensures (rest _ _ _ c.ranges.n c.requires c.power-all.ensures)

@@ -46,4 +46,4 @@ module _ (u w : ℕ) (h : (1 ≤ w) × (w ≤ 32) × (u < 2 ^ w)) (p : ℤ) (e :
   is_signed = rw (less, to_z-of_z (wider fits_int), to_z-of_z fits_int) (signed_place w h.0 u h.2)
 
 pub returns : goal.returns
-returns c = is_signed _ _ c.requires _ c.power-half.ensures
+returns c = rw c.from.ensures (is_signed _ _ c.requires _ c.power-half.ensures)
