@@ -92,13 +92,14 @@ impl Integer {
     pub fn has(self, n: i64) -> bool
         ensures { result ≡ has self n }
     {
-        self.lowest() <= n && n <= self.highest()
+        (self.lowest()..=self.highest()).contains(&n)
     }
 }
 
 impl From<u8> for Format {
     ghost from_gives = { λ t f. f ≡ format_of t };
 
+    #[tactic(auto, unfolding(crate::specs::Formats::format_of))]
     fn from(t: u8) -> Format {
         match t {
             0 => Format::Whole(Integer::Unsigned8),
@@ -124,18 +125,21 @@ impl Format {
         Format::from(t)
     }
 
+    #[tactic(auto, unfolding(crate::specs::Formats::may_read))]
     pub fn may_read(t: u8) -> bool
         ensures { result ≡ may_read t }
     {
         t <= Format::LAST_READ
     }
 
+    #[tactic(auto, unfolding(crate::specs::Formats::may_send))]
     pub fn may_send(t: u8) -> bool
         ensures { result ≡ may_send t }
     {
         t <= Format::LAST_SENT
     }
 
+    #[tactic(auto, unfolding(crate::specs::Formats::may_convert))]
     pub fn may_convert(t: u8) -> bool
         ensures { result ≡ may_convert t }
     {
@@ -156,6 +160,6 @@ impl Format {
     pub fn size_at(t: u8) -> usize
         ensures { (result ≡ size_at t) × (result ≤ 4) }
     {
-        Format::of_index(t).size()
+        Format::from(t).size()
     }
 }

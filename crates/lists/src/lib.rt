@@ -10,24 +10,18 @@ ghost use Rattle.lists.specs.Tables.{outside};
 pub fn at(d: &[u8], i: usize) -> u8
     ensures { result ≡ byte d.now i }
 {
-    if i < d.len() { d[i] } else { 0 }
+    d.get(i).copied().unwrap_or(0)
 }
 
 // Whether a count lies outside 1 to `top`.
 pub fn is_outside(n: u16, top: u16) -> bool
     ensures { result ≡ outside top n }
 {
-    if n < 1 {
-        return true;
-    }
-    if n > top {
-        return true;
-    }
-    false
+    !(1..=top).contains(&n)
 }
 
 pub fn at_most(n: usize, most: usize) -> usize
     ensures { result ≡ min n most }
 {
-    if n < most { n } else { most }
+    n.min(most)
 }

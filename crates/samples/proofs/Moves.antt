@@ -2,7 +2,6 @@
 use mathlib.Core.Path.{◌≡◌, ◌∙◌}
 use Prim.Native.Nat.{ℕ, ◌-◌, ◌^◌, ◌≤◌, ◌<◌}
 use native.Mathlib.Omega.{arith}
-use lib.Dec.{lit≤}
 use lib.IntN.{ℤ, sub_ℕ}
 use lib.Signed.{mag}
 use mir.Syntax.{w32}
@@ -11,16 +10,6 @@ use Rattle.sample_rules.specs.Convert.{rank, rescaled}
 use Rattle.sample_rules.specs.Bits.{bits_of}
 use Rattle.formats.proofs.Machine.{Int}
 use Rattle.sample_rules.proofs.Bits.{bits_lt, rescaled_mag}
-
--- the widths of a byte, of a slot and of 32 bits are widths
-abbrev pub bits8 : (2 ≤ 8) × (8 ≤ 32)
-bits8 = (lit≤ tt, lit≤ tt)
-
-abbrev pub bits24 : (2 ≤ 24) × (24 ≤ 32)
-bits24 = (lit≤ tt, lit≤ tt)
-
-abbrev pub bits32 : (2 ≤ 32) × (32 ≤ 32)
-bits32 = (lit≤ tt, lit≤ tt)
 
 int : (z : ℤ) → mag z < 2 ^ 31 → Int z ≡ z
 int z h = to_z-of_z {w = w32} (record { sfits = h })

@@ -77,11 +77,11 @@ impl Sample for Unsigned8 {
     const SIZE: usize = 1;
 
     fn get(d: &[u8], a: usize) -> u32 {
-        words::get1(d, a)
+        words::get::<1>(d, a)
     }
 
     fn put(out: &mut [u8], u: u32) {
-        words::put1(out, u)
+        words::put::<1>(out, u)
     }
 
     fn slot(u: u32) -> u32 {
@@ -105,11 +105,11 @@ impl Sample for Signed16 {
     const SIZE: usize = 2;
 
     fn get(d: &[u8], a: usize) -> u32 {
-        words::get2(d, a)
+        words::get::<2>(d, a)
     }
 
     fn put(out: &mut [u8], u: u32) {
-        words::put2(out, u)
+        words::put::<2>(out, u)
     }
 
     fn slot(u: u32) -> u32 {
@@ -133,11 +133,11 @@ impl Sample for Signed24 {
     const SIZE: usize = 3;
 
     fn get(d: &[u8], a: usize) -> u32 {
-        words::get3(d, a)
+        words::get::<3>(d, a)
     }
 
     fn put(out: &mut [u8], u: u32) {
-        words::put3(out, u)
+        words::put::<3>(out, u)
     }
 
     fn slot(u: u32) -> u32 {
@@ -161,11 +161,11 @@ impl Sample for Signed32 {
     const SIZE: usize = 4;
 
     fn get(d: &[u8], a: usize) -> u32 {
-        words::get4(d, a)
+        words::get::<4>(d, a)
     }
 
     fn put(out: &mut [u8], u: u32) {
-        words::put4(out, u)
+        words::put::<4>(out, u)
     }
 
     fn slot(u: u32) -> u32 {

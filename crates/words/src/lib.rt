@@ -6,119 +6,115 @@ ghost use Rattle.std.specs.Prelude.{◌≡◌, ◌+◌, ◌^◌, ◌<◌, ◌≤
 ghost use Rattle.lists.specs.Lists.{put};
 ghost use Rattle.lists.specs.Little.{little, bytes_of};
 
-pub fn wide(x: u8) -> u32
-    ensures { (result ≡ x) × (result < 256) }
-{
-    x as u32
-}
-
 pub fn wider(x: u32) -> u64
     ensures { result ≡ x }
 {
-    x as u64
+    u64::from(x)
+}
+
+// The number of the `N` bytes from `a` on.
+pub fn get<const N: usize>(d: &[u8], a: usize) -> u32
+    requires { (N ≤ 4) × (a + N ≤ length d.now) }
+    ensures { (result ≡ little N d.now a) × (result < 256 ^ N) }
+{
+    let end = a + N;
+    let mut bytes = [0u8; 4];
+    bytes[..N].copy_from_slice(&d[a..end]);
+    u32::from_le_bytes(bytes)
 }
 
 pub fn get1(d: &[u8], a: usize) -> u32
     requires { a + 1 ≤ length d.now }
     ensures { (result ≡ little 1 d.now a) × (result < 256) }
 {
-    wide(d[a])
+    get::<1>(d, a)
 }
 
 pub fn get2(d: &[u8], a: usize) -> u32
     requires { a + 2 ≤ length d.now }
     ensures { (result ≡ little 2 d.now a) × (result < 65536) }
 {
-    wide(d[a]) + wide(d[a + 1]) * 256
+    get::<2>(d, a)
 }
 
 pub fn get3(d: &[u8], a: usize) -> u32
     requires { a + 3 ≤ length d.now }
     ensures { (result ≡ little 3 d.now a) × (result < 16777216) }
 {
-    wide(d[a]) + wide(d[a + 1]) * 256 + wide(d[a + 2]) * 65536
+    get::<3>(d, a)
 }
 
 pub fn get4(d: &[u8], a: usize) -> u32
     requires { a + 4 ≤ length d.now }
     ensures { result ≡ little 4 d.now a }
 {
-    wide(d[a]) + wide(d[a + 1]) * 256 + wide(d[a + 2]) * 65536 + wide(d[a + 3]) * 16777216
+    get::<4>(d, a)
 }
 
-// The same of any bytes: 0 past the end.
+// The number of four bytes, 0 past the slice's end.
 pub fn at4(d: &[u8], a: usize) -> u32
     requires { a < 2 ^ 16 }
     ensures { result ≡ little 4 d.now a }
 {
-    wide(lists::at(d, a))
-        + wide(lists::at(d, a + 1)) * 256
-        + wide(lists::at(d, a + 2)) * 65536
-        + wide(lists::at(d, a + 3)) * 16777216
-}
-
-// Two reads of four become one of eight where both stand at known places of one part; a sum of eight single bytes would not.
-fn word(d: &[u8]) -> u64
-    requires { length d.now ≡ 8 }
-    ensures { result ≡ little 8 d.now 0 }
-{
-    wider(get4(d, 0)) + wider(get4(d, 4)) * 4294967296
+    u32::from_le_bytes([
+        lists::at(d, a),
+        lists::at(d, a + 1),
+        lists::at(d, a + 2),
+        lists::at(d, a + 3),
+    ])
 }
 
 pub fn get8(d: &[u8], a: usize) -> u64
     requires { a + 8 ≤ length d.now }
     ensures { result ≡ little 8 d.now a }
 {
-    let e = a + 8;
-    word(&d[a..e])
+    let end = a + 8;
+    let mut bytes = [0u8; 8];
+    bytes.copy_from_slice(&d[a..end]);
+    u64::from_le_bytes(bytes)
+}
+
+// Stores the `N` bytes of `v` over the whole of `out`.
+pub fn put<const N: usize>(out: &mut [u8], v: u32)
+    requires { (N ≤ 4) × (length out.old ≡ N) × (v < 256 ^ N) }
+    ensures { out.new ≡ bytes_of N v }
+{
+    out.copy_from_slice(&v.to_le_bytes()[..N]);
 }
 
 pub fn put1(out: &mut [u8], v: u32)
     requires { (length out.old ≡ 1) × (v < 256) }
     ensures { out.new ≡ bytes_of 1 v }
 {
-    out[0] = v as u8;
+    put::<1>(out, v)
 }
 
 pub fn put2(out: &mut [u8], v: u32)
     requires { (length out.old ≡ 2) × (v < 65536) }
     ensures { out.new ≡ bytes_of 2 v }
 {
-    out[0] = (v % 256) as u8;
-    out[1] = (v / 256) as u8;
+    put::<2>(out, v)
 }
 
 pub fn put3(out: &mut [u8], v: u32)
     requires { (length out.old ≡ 3) × (v < 16777216) }
     ensures { out.new ≡ bytes_of 3 v }
 {
-    out[0] = (v % 256) as u8;
-    out[1] = (v / 256 % 256) as u8;
-    out[2] = (v / 65536) as u8;
+    put::<3>(out, v)
 }
 
 pub fn put4(out: &mut [u8], v: u32)
     requires { length out.old ≡ 4 }
     ensures { out.new ≡ bytes_of 4 v }
 {
-    out[0] = (v % 256) as u8;
-    out[1] = (v / 256 % 256) as u8;
-    out[2] = (v / 65536 % 256) as u8;
-    out[3] = (v / 16777216) as u8;
+    put::<4>(out, v)
 }
 
 pub fn put8(out: &mut [u8], w: u64)
     requires { length out.old ≡ 8 }
     ensures { out.new ≡ bytes_of 8 w }
 {
-    out[0] = (w % 256) as u8;
-    out[1] = (w / 256 % 256) as u8;
-    out[2] = (w / 65536 % 256) as u8;
-    out[3] = (w / 16777216 % 256) as u8;
-    out[4] = (w / 4294967296 % 256) as u8;
-    out[5] = (w / 1099511627776 % 256) as u8;
-    out[6] = (w / 281474976710656 % 256) as u8;
-    out[7] = (w / 72057594037927936) as u8;
+    out.copy_from_slice(&w.to_le_bytes());
 }
 
 // By way of a block of our own: the compiler then sees that nothing overlaps, drops the block, and moves memory at once.

@@ -1,0 +1,7 @@
+-- The first of the library's bytes of the number.
+use mathlib.Core.Path.{◌∙◌}
+use Rattle.words.proofs.Words.{first_bytes}
+use Rattle.words.proofs.put.Goals as goal
+
+pub returns : goal.returns
+returns g c = c.copy_from_slice.ensures.after ∙ rw c.to_le_bytes.ensures (first_bytes c.args.v g.row.N c.requires.0)
