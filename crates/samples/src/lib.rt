@@ -2,8 +2,6 @@
 #![tactic(auto)]
 
 ghost use Rattle.std.specs.Prelude.{◌≡◌, true, false, pos, MatchResult, IfOk, IfErr};
-ghost use Rattle.answers.specs.declared.Made.TheVariants.{Done, Form};
-ghost use Rattle.formats.specs.declared.Format.TheVariants.{Whole};
 ghost use Rattle.formats.specs.Formats.{format_of, may_convert, has};
 ghost use Rattle.sample_rules.specs.Convert.{converted, convert_of};
 ghost use Rattle.sample_rules.specs.Nearest.{NearestAs};
@@ -27,7 +25,7 @@ fn between(f: Integer, t: Integer, n: i64) -> i64
 
 // The whole numbers of an index that may be converted.
 fn convertible(t: u8) -> Result<Integer, Made>
-    ensures { MatchResult result (λ f. (may_convert t ≡ true) × (format_of t ≡ Whole f)) (λ a. (may_convert t ≡ false) × (a ≡ Form)) }
+    ensures { MatchResult result (λ f. (may_convert t ≡ true) × (format_of t ≡ Format.Whole f)) (λ a. (may_convert t ≡ false) × (a ≡ Made.Form)) }
 {
     if !Format::may_convert(t) {
         return Err(Made::Form);
@@ -39,7 +37,7 @@ fn convertible(t: u8) -> Result<Integer, Made>
 }
 
 fn number(from: u8, to: u8, n: i64) -> Result<i64, Made>
-    ensures given { IfOk result (λ x. record { answer = Done; value = x } ≡ convert_of from to n) }
+    ensures given { IfOk result (λ x. record { answer = Made.Done; value = x } ≡ convert_of from to n) }
     ensures refused { IfErr result (λ a. record { answer = a; value = pos 0 } ≡ convert_of from to n) }
 {
     let f = convertible(from)?;
