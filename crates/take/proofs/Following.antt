@@ -37,8 +37,11 @@ module _ (t : Take) (address : ℕ) (d track : List ℕ) (held : ℕ) (eh : held
     unfolding answer_of
     answer_is = first_err Accepted rows a refused_rows
 
+    pub refusal_is : a ≡ Accepted → ⊥
+    refusal_is = says_other Accepted a rows (none_says Accepted number_of rows tt) refused_rows
+
     refusal : answer_of t address d (records_held track) ≡ Accepted → ⊥
-    refusal x = says_other Accepted a rows (none_says Accepted number_of rows tt) refused_rows (sym answer_is ∙ x)
+    refusal x = refusal_is (sym answer_is ∙ x)
 
     pub refused_followed : refused_by t a ≡ followed_of t address d track
     refused_followed = rw (← answer_is) (sym (follow_refused t address d track refusal))
