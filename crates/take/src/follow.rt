@@ -5,7 +5,7 @@ ghost use Rattle.wire_rules.specs.Header.{header_size};
 ghost use Rattle.track_rules.specs.Records.{records_held, laid_of, packet_slot};
 ghost use Rattle.take_rules.specs.Follow.{place_of, changed_shape, followed_by, laid_by, followed_of, followed_track};
 ghost use Rattle.take_rules.specs.Tally.{tallied_of};
-ghost use Rattle.take.specs.Judging.{refused_by, accepted_by, Asked};
+ghost use Rattle.take.specs.Judging.{accepted_by, Asked};
 
 use answers::Answer;
 use formats::Format;
@@ -66,20 +66,7 @@ fn accept(t: Take, h: Header, d: &[u8], track: &mut [u8]) -> Followed
     }
 }
 
-// What a refusal tells: zeros beside the answer, and the take as it was.
-fn refuse(take: Take, answer: Answer) -> Followed
-    ensures { result ≡ refused_by take answer }
-{
-    let told = Told {
-        answer,
-        place: 0,
-        frames: 0,
-        skipped: 0,
-    };
-    Followed { told, take }
-}
-
-// Judges a datagram and, where it is accepted, lays its records down.
+// Judges a datagram and, where it is accepted, lays its records down. A refusal tells zeros and leaves the take.
 fn followed(
     name: &[u8; 16],
     take: Take,
@@ -93,7 +80,15 @@ fn followed(
 {
     match crate::judge::judge(name, take, address, datagram, track::held(track)) {
         Ok(header) => accept(take, header, datagram, track),
-        Err(answer) => refuse(take, answer),
+        Err(answer) => Followed {
+            told: Told {
+                answer,
+                place: 0,
+                frames: 0,
+                skipped: 0,
+            },
+            take,
+        },
     }
 }
 

@@ -21,6 +21,6 @@ pub returns-in-Err : goal.returns-in-Err
 returns-in-Err c =
     let a = c.args in
     record {
-      value = rw c.refuse.ensures (refused_followed a.take a.address a.datagram.now a.track.now _ c.held.ensures _ c.in-Err.ensures);
+      value = refused_followed a.take a.address a.datagram.now a.track.now _ c.held.ensures _ c.in-Err.ensures;
       track_after = refused_left a.take a.address a.datagram.now a.track.now _ c.held.ensures _ c.in-Err.ensures;
     }
