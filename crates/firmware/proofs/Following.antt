@@ -1,39 +1,31 @@
 -- What following tells a caller in C, on plain values.
 use mathlib.Core.Path.{◌≡◌, refl, sym, ap, ◌∙◌}
 use mathlib.Core.List.{List, [], ◌∷◌}
-use Prim.Native.Nat.{ℕ, ◌+◌, ◌≤◌, ◌<◌}
+use Prim.Native.Nat.{ℕ}
 use lib.Dec.{eqb}
-use lib.ListN.{length, get_or, set, take, replicate}
-use lib.Seq.{set-get_or}
-use borrow.Author.Tests.{lt-ltb, le-ltb, ne_eqb}
+use lib.ListN.{length, take, replicate}
+use borrow.Author.Tests.{ne_eqb}
+use Rattle.std.specs.Prelude.{Result, Ok, Err}
 use Rattle.lists.specs.Lists.{put}
 use Rattle.lists.specs.Tables.{choose}
 use Rattle.lists.proofs.Tables.{by_test}
+use Rattle.wire_rules.specs.declared.Header.{Header}
 use Rattle.wire_rules.specs.Header.{header_of}
 use Rattle.track_rules.specs.Records.{records_held}
 use Rattle.answers.specs.declared.Answer.{Answer}
-use Rattle.answers.specs.Numbers.{number_of, count_of}
-use Rattle.answers.proofs.Numbers.{accepts}
+use Rattle.answers.specs.declared.Answer.TheVariants.{Accepted}
+use Rattle.answers.specs.Numbers.{number_of}
+use Rattle.answers.proofs.Numbers.{number_told}
 use Rattle.take_rules.specs.declared.Take.{Take}
 use Rattle.take_rules.specs.declared.Followed.{Followed}
 use Rattle.take_rules.specs.declared.Tallied.{Tallied}
 use Rattle.take_rules.specs.Follow.{place_of, skipped_of, answer_of, follow_rows, followed_by, laid_by, followed_of, followed_track}
 use Rattle.take_rules.specs.Tally.{tally_of, raised_of}
-use Rattle.take.specs.declared.judge.Judged.{Judged}
-use Rattle.take.specs.Judging.{judged_by}
-use Rattle.take.proofs.Following.{tallied, refused_followed, refused_left, accepted_followed, accepted_laid, next_accepted, next_laid}
+use Rattle.take.specs.Judging.{judged_by, refused_by}
+use Rattle.take.proofs.Following.{tallied, refusal_is, refused_followed, refused_left, accepted_followed, accepted_laid, next_accepted, next_laid}
 use Rattle.kept.specs.Kept.{tail_of, take_bytes, take_of}
 use Rattle.firmware.specs.Face.{followed_for, laid_for, kept_after}
 use Rattle.kept.proofs.Keeping.{tail_alone}
-
--- ---- one count
-
-module _ (counts : List ℕ) (a : Answer) (i : ℕ) (e : i ≡ count_of (number_of a)) where
-  pub raised : get_or counts i 0 < 4294967295 → set counts i (get_or counts i 0 + 1) ≡ (raised_of (tally_of counts) a).counts
-  raised h = rw (e, lt-ltb (get_or counts (count_of (number_of a)) 0) 4294967295 (rw e at h))
-
-  pub at_the_top : 4294967295 ≤ get_or counts i 0 → counts ≡ (raised_of (tally_of counts) a).counts
-  at_the_top h = rw (le-ltb (get_or counts (count_of (number_of a)) 0) 4294967295 (rw e at h)) (sym (set-get_or counts (count_of (number_of a)) 0))
 
 -- ---- following
 
@@ -44,9 +36,9 @@ name_kept t address d track =
     by_test (λ b. (choose b (followed_by t (header_of d)) t).who.name ≡ t.who.name) (eqb (number_of (answer_of t address d (records_held track))) 0)
     (λ e. refl) (λ e. refl)
 
-pub loaded_name : (kept : List ℕ) (t : Take) → t ≡ take_of kept → take 16 kept ≡ t.who.name
+pub loaded_name : (kept name : List ℕ) (t : Take) → t ≡ take_of kept → name ≡ take 16 kept → name ≡ t.who.name
 unfolding take_of
-loaded_name kept t e = rw e
+loaded_name kept name t e n = n ∙ rw e
 
 -- what a caller in C is told of what following gives: the number, the words beside it, its bytes and counts, and the track
 pub record Tells (kept counts : List ℕ) (address : ℕ) (d track : List ℕ) (n : ℕ) (laid kept' counts' track' : List ℕ) : Type 0 where
@@ -79,7 +71,7 @@ module _ (kept counts d track : List ℕ) (address : ℕ) (t : Take) (f : Follow
   }
 
   named : f.take.who.name ≡ take 16 kept
-  named = ap (λ (x : Followed). x.take.who.name) ef ∙ name_kept t address d track ∙ sym (loaded_name kept t et)
+  named = ap (λ (x : Followed). x.take.who.name) ef ∙ name_kept t address d track ∙ sym (loaded_name kept (take 16 kept) t et refl)
 
   kept_new : length kept ≡ 40 → (kept' : List ℕ) → n ≡ 0 → kept' ≡ put kept 16 (tail_of f.take) → kept' ≡ kept_after kept given.followed
   kept_new forty kept' z e =
@@ -89,26 +81,27 @@ module _ (kept counts d track : List ℕ) (address : ℕ) (t : Take) (f : Follow
   kept_old z = rw (← number_is, ne_eqb n 0 z)
 
 -- by what was judged: a refusal, and a packet that is accepted
-module _ (kept counts d track : List ℕ) (address : ℕ) (t : Take) (held : ℕ) (j : Judged) (n : ℕ) (et : t ≡ take_of kept) (eh : held ≡ records_held track)
-    (ej : j ≡ judged_by (follow_rows t address d held) d) (q : n ≡ number_of j.answer) (counts' : List ℕ)
-    (c : counts' ≡ (raised_of (tally_of counts) j.answer).counts) where
-  pub told_refused : (n ≡ 0 → ⊥) → Tells kept counts address d track n (replicate 8 0) kept counts' track
-  told_refused z =
-      let f : Followed = record { told = record { answer = j.answer; place = 0; frames = 0; skipped = 0 }; take = t } in
-      let ef : f ≡ followed_of t address d track = refused_followed t address d track held eh j ej n q z in
-      tells kept counts d track address t f n et ef q track kept counts' (refused_left t address d track held eh j ej n q z)
-      (kept_old kept counts d track address t f n et ef q z) c
+module _ (kept counts d track : List ℕ) (address : ℕ) (t : Take) (held : ℕ) (et : t ≡ take_of kept) (eh : held ≡ records_held track) (counts' : List ℕ) where
+  abbrev judged : Result Header Answer
+  judged = judged_by (follow_rows t address d held) d
 
-  pub told_accepted : n ≡ 0 → length kept ≡ 40 → (p s : ℕ) (kept' track' : List ℕ) → p ≡ place_of t j.header → s ≡ skipped_of t j.header
-      → kept' ≡ put kept 16 (tail_of (followed_by (take_of kept) j.header)) → track' ≡ laid_by j.header d p track
-      → Tells kept counts address d track 0 (p ∷ j.header.frames ∷ s ∷ 0 ∷ 0 ∷ 0 ∷ 0 ∷ 0 ∷ []) kept' counts' track'
-  told_accepted z forty p s kept' track' ep es ekept etrack =
-      let k : Take = followed_by t j.header in
-      let f : Followed = record { told = record { answer = j.answer; place = p; frames = j.header.frames; skipped = s }; take = k } in
-      let ef : f ≡ followed_of t address d track =
-      accepted_followed t address d track held eh j ej n q z f (rw (accepts j.answer n q z) (next_accepted t j.header p ep s k es refl)) in
-      let laid : track' ≡ followed_track t address d track = accepted_laid t address d track held eh j ej n q z track'
-      (next_laid t j.header p ep d track track' etrack) in
-      let stored = kept_new kept counts d track address t f n et ef q forty kept' z (ekept ∙ rw et) in
-      let all = tells kept counts d track address t f n et ef q track' kept' counts' laid stored c in
-      record { answer = sym z ∙ all.answer; words = all.words; take_kept = all.take_kept; counted = all.counted; track_laid = all.track_laid }
+  pub told_refused : (a : Answer) → Err a ≡ judged → counts' ≡ (raised_of (tally_of counts) a).counts
+      → Tells kept counts address d track (number_of a) (replicate 8 0) kept counts' track
+  told_refused a ej c =
+      let ef = refused_followed t address d track held eh a ej in
+      tells kept counts d track address t (refused_by t a) (number_of a) et ef refl track kept counts' (refused_left t address d track held eh a ej)
+      (kept_old kept counts d track address t (refused_by t a) (number_of a) et ef refl
+      (λ z. refusal_is t address d track held eh a ej (number_told a Accepted z))) c
+
+  pub told_accepted : (h : Header) → Ok h ≡ judged → length kept ≡ 40 → (p n s : ℕ) (kept' track' : List ℕ) → p ≡ place_of t h → n ≡ h.frames → s ≡ skipped_of t h
+      → kept' ≡ put kept 16 (tail_of (followed_by (take_of kept) h)) → track' ≡ laid_by h d p track
+      → counts' ≡ (raised_of (tally_of counts) Accepted).counts
+      → Tells kept counts address d track 0 (p ∷ n ∷ s ∷ 0 ∷ 0 ∷ 0 ∷ 0 ∷ 0 ∷ []) kept' counts' track'
+  told_accepted h ej forty p n s kept' track' ep en es ekept etrack c =
+      let k : Take = followed_by t h in
+      let f : Followed = record { told = record { answer = Accepted; place = p; frames = h.frames; skipped = s }; take = k } in
+      let ef : f ≡ followed_of t address d track = accepted_followed t address d track held eh h ej f (next_accepted t h p ep s k es refl) in
+      let laid : track' ≡ followed_track t address d track =
+      accepted_laid t address d track held eh h ej track' (next_laid t h p ep d track track' etrack) in
+      let stored = kept_new kept counts d track address t f 0 et ef refl forty kept' refl (ekept ∙ rw et) in
+      rw en (tells kept counts d track address t f 0 et ef refl track' kept' counts' laid stored c)

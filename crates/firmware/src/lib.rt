@@ -9,7 +9,7 @@ ghost use Rattle.wire_rules.specs.Read.{read_of};
 ghost use Rattle.wire_rules.specs.Write.{write_of, output_of};
 ghost use Rattle.take_rules.specs.Take.{open_of, opened_track};
 ghost use Rattle.take_rules.specs.Follow.{followed_track};
-ghost use Rattle.take_rules.specs.Tally.{tally_of, cleared, raised_of};
+ghost use Rattle.take_rules.specs.Tally.{cleared};
 ghost use Rattle.cutter_rules.specs.Largest.{largest_of};
 ghost use Rattle.cutter_rules.specs.Cut.{cut_of, cut_output};
 ghost use Rattle.kept.specs.Kept.{take_bytes, take_of};
@@ -24,9 +24,8 @@ pub fn tashmirok_rate(index: u8, hertz: &mut u32) -> u8
     ensures hertz { hertz.new ≡ (rate_of index).hertz }
 {
     let rated = recorder::rate(index);
-    let answer = rated.answer;
     *hertz = rated.hertz;
-    answers::number(answer)
+    u8::from(rated.answer)
 }
 
 // One number of a type as a number of another.
@@ -35,10 +34,8 @@ pub fn tashmirok_convert(from: u8, to: u8, number: i64, converted: &mut i64) -> 
     ensures converted { converted.new ≡ (convert_of from to number).value }
 {
     let made = recorder::convert(from, to, number);
-    let answer = made.answer;
-    let value = made.value;
-    *converted = value;
-    answers::number_made(answer)
+    *converted = made.value;
+    u8::from(made.answer)
 }
 
 // One datagram: its header's numbers, its name and the number of its data bytes.
@@ -57,16 +54,15 @@ pub fn tashmirok_read(
     let h = read.header;
     let n = h.name;
     *fields = [
-        h.rate as u32,
-        h.frames as u32,
-        h.channels as u32,
-        h.format as u32,
+        u32::from(h.rate),
+        u32::from(h.frames),
+        u32::from(h.channels),
+        u32::from(h.format),
         h.counter,
     ];
     *name = n;
     *size = read.size;
-    let answer = read.answer;
-    answers::number(answer)
+    u8::from(read.answer)
 }
 
 // One packet into the lent output.
@@ -85,19 +81,17 @@ pub fn tashmirok_write(
     ensures output { out.new ≡ output_of (header_from rate frames channels format name.now counter) samples.now out.old }
     ensures written { written.new ≡ (write_of (header_from rate frames channels format name.now counter) samples.now out.old).length }
 {
-    let name = *name;
     let header = Header {
         rate,
         frames,
         channels,
         format,
-        name,
+        name: *name,
         counter,
     };
     let made = recorder::write(header, samples, out);
     *written = made.length;
-    let answer = made.answer;
-    answers::number_made(answer)
+    u8::from(made.answer)
 }
 
 // The most frames that a packet of a type and channels can have.
@@ -107,8 +101,7 @@ pub fn tashmirok_largest(format: u8, channels: u16, frames: &mut u16) -> u8
 {
     let largest = recorder::largest(format, channels);
     *frames = largest.frames;
-    let answer = largest.answer;
-    answers::number_made(answer)
+    u8::from(largest.answer)
 }
 
 // Packet `k` of a track, into the lent output.
@@ -136,11 +129,9 @@ pub fn tashmirok_cut(
         name: *name,
         counter: start,
     };
-    let field = &name[..];
-    let made = cutter::cut::cut_named(field, header, track, k, out);
+    let made = cutter::cut::cut_named(name, header, track, k, out);
     *written = made.length;
-    let answer = made.answer;
-    answers::number_made(answer)
+    u8::from(made.answer)
 }
 
 // How many bytes a take has.
@@ -170,8 +161,7 @@ pub fn tashmirok_clear_tally(tally: &mut [u32; 17])
 pub fn tashmirok_count(tally: &[u32; 17], number: u8) -> u32
     ensures { result ≡ count_for tally.now number }
 {
-    let i = answers::count(number);
-    if i < answers::COUNTS { tally[i] } else { 0 }
+    tally.get(answers::count(number)).copied().unwrap_or(0)
 }
 
 // A take for a name and a sender's address, on a lent track.
@@ -181,21 +171,8 @@ pub fn tashmirok_open(kept: &mut [u8; 40], name: &[u8; 16], address: u32, track:
     ensures track { track.new ≡ opened_track name.now track.old }
 {
     let opened = recorder::open(*name, address, track);
-    let take = opened.take;
-    kept::store(take, kept);
-    let answer = opened.answer;
-    answers::number(answer)
-}
-
-// One count raised where it stands, holding at the top.
-fn raise(tally: &mut [u32; 17], answer: Answer)
-    ensures { tally.new ≡ (raised_of (tally_of tally.old) answer).counts }
-{
-    let i = take::counts::count(answer);
-    let c = tally[i];
-    if c < 4294967295 {
-        tally[i] = c + 1;
-    }
+    kept::store(opened.take, kept);
+    u8::from(opened.answer)
 }
 
 // One datagram into the take; one count of the tally is raised.
@@ -214,33 +191,33 @@ pub fn tashmirok_follow(
     ensures track { track.new ≡ followed_track (take_of kept.old) address datagram.now track.old }
 {
     let t = kept::load(kept);
-    let bytes = &kept[..];
-    let judged = take::judge::judge(&bytes[..16], t, address, datagram, track::held(track));
-    let answer = judged.answer;
-    let number = answers::number(answer);
-    if number != 0 {
-        raise(tally, answer);
-        *laid = [0; 8];
-        return number;
+    match take::judge::judge(kept::name(kept), t, address, datagram, track::held(track)) {
+        Ok(h) => {
+            // A take that is followed keeps its name, so the bytes after it are all that can change. The records come when little is left
+            // to be kept meanwhile, and not last: with nothing after the loops the compiler sets the answer in each turn of each.
+            let place = take::line::place_of(t, h);
+            let skipped = take::line::skipped(t, h);
+            *laid = [
+                place as u64,
+                u64::from(h.frames),
+                u64::from(skipped),
+                0,
+                0,
+                0,
+                0,
+                0,
+            ];
+            kept::store_followed(h, place, kept);
+            take::follow::lay(h.format, h.frames, h.channels, datagram, place, track);
+            take::counts::raise_in(tally, Answer::Accepted);
+            u8::from(Answer::Accepted)
+        }
+        Err(answer) => {
+            take::counts::raise_in(tally, answer);
+            *laid = [0; 8];
+            u8::from(answer)
+        }
     }
-    // A take that is followed keeps its name, so the bytes after it are all that can change. The records come when little is left to be
-    // kept meanwhile, and not last: with nothing after the loops the compiler sets the answer in each turn of each.
-    let h = judged.header;
-    let place = take::line::place_of(t, h);
-    *laid = [
-        place as u64,
-        h.frames as u64,
-        take::line::skipped(t, h) as u64,
-        0,
-        0,
-        0,
-        0,
-        0,
-    ];
-    kept::store_followed(h, place, kept);
-    take::follow::lay(h.format, h.frames, h.channels, datagram, place, track);
-    raise(tally, answer);
-    0
 }
 
 // What the first packet accepted has fixed: rate index, channels, data type and N.
@@ -249,18 +226,17 @@ pub fn tashmirok_shape(kept: &[u8; 40], shape: &mut [u32; 4]) -> u8
     ensures shape { shape.new ≡ shape_for kept.now }
 {
     let t = kept::load(kept);
-    let bytes = &kept[..];
     *shape = [0; 4];
-    if take::judge::bad_state(&bytes[..16], t) {
-        return answers::number(Answer::State);
+    if take::judge::bad_state(kept::name(kept), t) {
+        return u8::from(Answer::State);
     }
     if t.begun {
         *shape = [
-            t.shape.rate as u32,
-            t.shape.channels as u32,
-            t.shape.format as u32,
-            t.line.n as u32,
+            u32::from(t.shape.rate),
+            u32::from(t.shape.channels),
+            u32::from(t.shape.format),
+            u32::from(t.line.n),
         ];
     }
-    0
+    u8::from(Answer::Accepted)
 }

@@ -1,21 +1,21 @@
 -- A take's bytes read and written, on plain values.
 use mathlib.Core.Path.{◌≡◌, refl, sym, ap, ◌∙◌}
-use mathlib.Core.Bool.{Bool, true, false, not, ◌&&◌}
+use mathlib.Core.Bool.{Bool, true, false, not}
 use mathlib.Core.List.{List, [], ◌∷◌, ◌++◌, append-nil}
-use Prim.Native.Nat.{ℕ, ◌+◌, ◌/◌, ◌%◌, ◌<◌, zero-le}
+use Prim.Native.Nat.{ℕ, ◌+◌, ◌%◌, ◌<◌, zero-le}
 use native.Mathlib.Nat.{zero-add, mod-eq_of_lt}
 use native.Mathlib.Omega.{arith}
 use lib.Dec.{eqb}
-use lib.ListN.{length, take, drop, replicate, length-append, length-drop, take-append-drop, drop_of_length-le}
+use lib.ListN.{length, take, drop, length-append, length-drop, take-append-drop, drop_of_length-le}
 use lib.Seq.{length-take-le}
-use borrow.Author.Tests.{eqb-true}
 use borrow.Rule.Slice.PartMut.{put_mid}
+use Rattle.std.specs.Int.{w16, to_le_bytes}
 use Rattle.lists.specs.Lists.{byte, put}
 use Rattle.lists.specs.Little.{little, bytes_of}
 use Rattle.lists.specs.Tables.{choose}
-use Rattle.lists.proofs.Lists.{lent, put_more, put_whole, copied_whole}
+use Rattle.lists.proofs.Lists.{lent, put_more, put_whole}
 use Rattle.lists.proofs.Little.{bytes_length, little_one}
-use Rattle.lists.proofs.Tables.{true_false, both}
+use Rattle.lists.proofs.Tables.{true_false}
 use Rattle.wire_rules.specs.declared.Header.{Header}
 use Rattle.take_rules.specs.declared.Decision.TheVariants.{Ahead, Late}
 use Rattle.take_rules.specs.declared.Take.{Take}
@@ -26,10 +26,6 @@ use Rattle.kept.specs.Kept.{kept_bytes, values_in, fixed_widths, fixed_values, n
 use Rattle.kept.proofs.Fields.{kept_again}
 
 -- ---- read
-
-pub named : (kept name : List ℕ) → length kept ≡ 40 → name ≡ take (length (take 16 kept)) (take 16 kept) ++ drop (length (take 16 kept)) (replicate 16 0)
-    → name ≡ take 16 kept
-named kept name forty p = p ∙ copied_whole (replicate 16 0) (take 16 kept) (length-take-le 16 kept (omega (arith, forty)))
 
 pub loaded : (kept name : List ℕ) (address channels n newest place : ℕ) → name ≡ take 16 kept → address ≡ little 4 kept 16
     → channels ≡ little 2 kept 24 → n ≡ little 2 kept 26 → newest ≡ little 4 kept 28 → place ≡ little 8 kept 32
@@ -50,15 +46,12 @@ flag_small : (b : Bool) → choose b 1 0 % 256 ≡ choose b 1 0
 flag_small true = refl
 flag_small false = refl
 
-pub middle_is : (t : Take) (g : ℕ) → g ≡ choose t.begun 1 0 → t.shape.rate < 256 → t.shape.format < 256 → t.shape.channels < 65536
-    → t.line.n < 65536
-    → g ∷ t.shape.rate ∷ t.shape.format ∷ 0 ∷ t.shape.channels % 256 ∷ t.shape.channels / 256 ∷ t.line.n % 256 ∷ t.line.n / 256 ∷ []
+pub middle_is : (t : Take) (g : ℕ) (c n : List ℕ) → g ≡ choose t.begun 1 0 → c ≡ to_le_bytes w16 t.shape.channels → n ≡ to_le_bytes w16 t.line.n
+    → t.shape.rate < 256 → t.shape.format < 256
+    → g ∷ t.shape.rate ∷ t.shape.format ∷ 0 ∷ byte c 0 ∷ byte c 1 ∷ byte n 0 ∷ byte n 1 ∷ []
     ≡ kept_bytes (drop 1 fixed_widths) (drop 1 (fixed_values t))
 unfolding bytes_of
-middle_is t g e r f c n =
-    let c' : t.shape.channels / 256 % 256 ≡ t.shape.channels / 256 = omega arith in
-    let n' : t.line.n / 256 % 256 ≡ t.line.n / 256 = omega arith in
-    rw (e, flag_small t.begun, mod-eq_of_lt r, mod-eq_of_lt f, c', n')
+middle_is t g c n e ec en r f = rw (e, ec, en, flag_small t.begun, mod-eq_of_lt r, mod-eq_of_lt f)
 
 module _ (kept : List ℕ) (forty : length kept ≡ 40) where
   pub newest_stored : (newest place : ℕ) (x y o : List ℕ) → x ≡ bytes_of 4 newest → y ≡ bytes_of 8 place → o ≡ put_mid 32 8 (put_mid 28 4 kept x) y
@@ -98,9 +91,6 @@ module _ (kept : List ℕ) (forty : length kept ≡ 40) where
       rw (z, e)
 
 -- ---- followed
-
-pub plain_by : (r : Bool) (a b : ℕ) → r ≡ (eqb a 1 && eqb b 0) → r ≡ true → (a ≡ 1) × (b ≡ 0)
-plain_by r a b e t = let p = both (eqb a 1) (eqb b 0) (sym e ∙ t) in (eqb-true a 1 p.0, eqb-true b 0 p.1)
 
 -- once begun, what is not late is ahead
 ahead_by : (n : Bool) → is_late (choose n Ahead Late) ≡ false → choose n Ahead Late ≡ Ahead
@@ -176,7 +166,3 @@ module _ (t u : Take) (e : t ≡ u) (h : Header) where
 
   pub late_as : late t h ≡ false → late u h ≡ false
   late_as a = ap (λ (x : Take). late x h) (sym e) ∙ a
-
-pub tail_followed : (kept o : List ℕ) (t k : Take) (h : Header) → t ≡ take_of kept → k ≡ followed_by t h → o ≡ put kept 16 (tail_of k)
-    → o ≡ put kept 16 (tail_of (followed_by (take_of kept) h))
-tail_followed kept o t k h et ek q = q ∙ rw (ek, et)

@@ -1,9 +1,8 @@
 // A take as the bytes that a caller in C keeps.
 #![tactic(auto)]
 
-ghost use Rattle.std.specs.Prelude.{◌≡◌, false, ◌&&◌, [], ◌∷◌, eqb, length, take as take_first, drop};
+ghost use Rattle.std.specs.Prelude.{◌≡◌, false, [], ◌∷◌, take as take_first, drop};
 ghost use Rattle.lists.specs.Lists.{put};
-ghost use Rattle.lists.specs.Tables.{choose};
 ghost use Rattle.take_rules.specs.Follow.{place_of, changed_shape, late, followed_by};
 ghost use Rattle.kept.specs.Kept.{kept_bytes, fixed_widths, fixed_values, newest_widths, tail_of, take_bytes, take_of};
 
@@ -31,70 +30,48 @@ const PLACE: usize = 32;
 
 pub const SIZE: usize = 40;
 
-fn name(kept: &[u8]) -> [u8; 16]
-    requires { length kept.now ≡ 40 }
-    ensures { result ≡ take_first 16 kept.now }
+// The first 16 bytes: the take's name.
+pub fn name(kept: &[u8; 40]) -> &[u8; 16]
+    ensures { result.now ≡ take_first 16 kept.now }
 {
-    let mut name = [0u8; 16];
-    name.copy_from_slice(&kept[0..ADDRESS]);
-    name
+    kept.first_chunk().unwrap()
 }
 
 // The take that the bytes are.
-pub fn load(kept: &[u8]) -> Take
-    requires { length kept.now ≡ 40 }
+pub fn load(kept: &[u8; 40]) -> Take
     ensures { result ≡ take_of kept.now }
 {
-    let who = Who {
-        name: name(kept),
-        address: words::get4(kept, ADDRESS),
-    };
-    let shape = Shape {
-        rate: kept[RATE],
-        channels: words::get2(kept, CHANNELS) as u16,
-        format: kept[FORMAT],
-    };
-    let line = Line {
-        n: words::get2(kept, FRAMES) as u16,
-        newest: words::get4(kept, NEWEST),
-        place: words::get8(kept, PLACE) as usize,
-    };
     Take {
-        who,
+        who: Who {
+            name: *name(kept),
+            address: words::get4(kept, ADDRESS),
+        },
         begun: kept[BEGUN] != 0,
-        shape,
-        line,
+        shape: Shape {
+            rate: kept[RATE],
+            channels: words::get2(kept, CHANNELS) as u16,
+            format: kept[FORMAT],
+        },
+        line: Line {
+            n: words::get2(kept, FRAMES) as u16,
+            newest: words::get4(kept, NEWEST),
+            place: words::get8(kept, PLACE) as usize,
+        },
     }
-}
-
-fn flag(b: bool) -> u8
-    ensures { result ≡ choose b 1 0 }
-{
-    if b { 1 } else { 0 }
 }
 
 // The bytes from `BEGUN` to `NEWEST`.
 fn middle(t: Take) -> [u8; 8]
     ensures { result ≡ kept_bytes (drop 1 fixed_widths) (drop 1 (fixed_values t)) }
 {
-    let begun = flag(t.begun);
-    let c = t.shape.channels;
-    let f = t.line.n;
-    [
-        begun,
-        t.shape.rate,
-        t.shape.format,
-        0,
-        (c % 256) as u8,
-        (c / 256) as u8,
-        (f % 256) as u8,
-        (f / 256) as u8,
-    ]
+    let begun = u8::from(t.begun);
+    let [c0, c1] = t.shape.channels.to_le_bytes();
+    let [n0, n1] = t.line.n.to_le_bytes();
+    [begun, t.shape.rate, t.shape.format, 0, c0, c1, n0, n1]
 }
 
 // The newest counter and place.
-fn store_newest(newest: u32, place: usize, kept: &mut [u8])
-    requires { length kept.old ≡ 40 }
+fn store_newest(newest: u32, place: usize, kept: &mut [u8; 40])
     ensures { kept.new ≡ put kept.old 28 (kept_bytes newest_widths (newest ∷ place ∷ [])) }
 {
     words::put4(&mut kept[NEWEST..PLACE], newest);
@@ -102,43 +79,32 @@ fn store_newest(newest: u32, place: usize, kept: &mut [u8])
 }
 
 // The bytes after the name.
-fn store_tail(t: Take, kept: &mut [u8])
-    requires { length kept.old ≡ 40 }
+fn store_tail(t: Take, kept: &mut [u8; 40])
     ensures { kept.new ≡ put kept.old 16 (tail_of t) }
 {
-    let middle = middle(t);
     words::put4(&mut kept[ADDRESS..BEGUN], t.who.address);
-    words::place(&middle, kept, BEGUN);
+    words::place(&middle(t), kept, BEGUN);
     store_newest(t.line.newest, t.line.place, kept);
 }
 
-// Whether a take has begun and its bytes are as we write them.
-fn is_plain(begun: u8, spare: u8) -> bool
-    ensures { result ≡ (eqb begun 1 && eqb spare 0) }
-{
-    begun == 1 && spare == 0
-}
-
-// The bytes of the take after a packet at `place`. Once begun, the newest counter and place are all that changes.
-pub fn store_followed(h: Header, place: usize, kept: &mut [u8])
-    requires kept_len { length kept.old ≡ 40 }
-    requires place_value { (place ≡ place_of (take_of kept.old) h) × (changed_shape (take_of kept.old) h ≡ false) × (late (take_of kept.old) h ≡ false) }
+// The bytes of the take after a packet at `place`. Once begun, the newest counter and place are all that changes, where the bytes are as
+// we write them.
+pub fn store_followed(h: Header, place: usize, kept: &mut [u8; 40])
+    requires { (place ≡ place_of (take_of kept.old) h) × (changed_shape (take_of kept.old) h ≡ false) × (late (take_of kept.old) h ≡ false) }
     ensures { kept.new ≡ put kept.old 16 (tail_of (followed_by (take_of kept.old) h)) }
 {
-    if is_plain(kept[BEGUN], kept[SPARE]) {
+    if kept[BEGUN] == 1 && kept[SPARE] == 0 {
         store_newest(h.counter, place, kept);
-        return;
+    } else {
+        let t = load(kept);
+        store_tail(take::follow::followed_by(t, h, place), kept);
     }
-    let t = load(kept);
-    store_tail(take::follow::followed_by(t, h, place), kept);
 }
 
 // A take's bytes over those that the caller keeps.
-pub fn store(t: Take, kept: &mut [u8])
-    requires { length kept.old ≡ 40 }
+pub fn store(t: Take, kept: &mut [u8; 40])
     ensures { kept.new ≡ take_bytes t }
 {
-    let name = t.who.name;
-    words::place(&name, kept, 0);
+    words::place(&t.who.name, kept, 0);
     store_tail(t, kept);
 }

@@ -1,33 +1,33 @@
 -- What the code's functions give one another; there is nothing to believe here.
-use Rattle.std.specs.Prelude.{◌≡◌, ℕ, ◌+◌, ◌^◌, ◌<◌, ◌≤◌, false, not, List, [], ◌∷◌, length, ◌==◌}
-use Rattle.lists.specs.Tables.{Row, row, choose, first}
+use Rattle.std.specs.Prelude.{◌≡◌, ℕ, ◌+◌, ◌^◌, ◌<◌, ◌≤◌, false, not, List, [], ◌∷◌, length, Result, Ok, Err}
+use Rattle.lists.specs.Tables.{Row, row, checked}
 use Rattle.answers.specs.declared.Answer.{Answer}
 use Rattle.answers.specs.declared.Answer.TheVariants.{Accepted, Name, OtherStream}
-use Rattle.answers.specs.Numbers.{number_of}
 use Rattle.formats.specs.Formats.{MayRead}
 use Rattle.wire_rules.specs.declared.Header.{Header}
 use Rattle.wire_rules.specs.Names.{good_name, same_name}
-use Rattle.wire_rules.specs.Header.{header_size, header_of, no_header, data_size}
+use Rattle.wire_rules.specs.Header.{header_size, header_of, data_size}
 use Rattle.reader.specs.Unnamed.{unnamed}
 use Rattle.track_rules.specs.Records.{records_held}
 use Rattle.take_rules.specs.declared.Take.{Take}
 use Rattle.take_rules.specs.declared.Followed.{Followed}
 use Rattle.take_rules.specs.Follow.{place_of, skipped_of, changed_shape, late, followed_by}
-use Rattle.take.specs.declared.judge.Judged.{Judged}
 
 -- 4 and the name's part of 5, by the take's name and a datagram's
 abbrev pub named_rows : List ℕ → List ℕ → List (Row Answer)
 named_rows name field = row Name (not (good_name field)) ∷ row OtherStream (not (same_name name field)) ∷ []
 
-abbrev pub refused_judged : Answer → Judged
-refused_judged a = record { answer = a; header = no_header }
+-- the header's numbers where a table passes
+abbrev pub judged_for : Result (Unit {0}) Answer → List ℕ → Result Header Answer
+judged_for (Ok u) d = Ok (unnamed (header_of d))
+judged_for (Err a) d = Err a
 
--- what rows say of a datagram, and the header's numbers where all pass
-abbrev pub judged_for : Answer → List ℕ → Judged
-judged_for a d = record { answer = a; header = choose (number_of a == 0) (unnamed (header_of d)) no_header }
+unfoldable pub judged_by : List (Row Answer) → List ℕ → Result Header Answer
+judged_by rows d = judged_for (checked rows) d
 
-unfoldable pub judged_by : List (Row Answer) → List ℕ → Judged
-judged_by rows d = judged_for (first Accepted rows) d
+-- what a refusal gives
+abbrev pub refused_by : Take → Answer → Followed
+refused_by t a = record { told = record { answer = a; place = 0; frames = 0; skipped = 0 }; take = t }
 
 -- what acceptance gives
 abbrev pub accepted_by : Take → Header → Followed

@@ -6,11 +6,11 @@ ghost use Rattle.take_rules.specs.Counter.{away, newer};
 pub fn distance(counter: u32, newest: u32) -> u32
     ensures { result ≡ away 32 counter newest }
 {
-    std::num::wrapping_sub_u32(counter, newest)
+    counter.wrapping_sub(newest)
 }
 
 pub fn is_newer(d: u32) -> bool
     ensures { result ≡ newer 32 d }
 {
-    0 < d && d < 0x8000_0000
+    (1..0x8000_0000).contains(&d)
 }

@@ -17,18 +17,15 @@ pub fn followed_by(t: Take, h: Header, place: usize) -> Take
     requires { (place ≡ place_of t h) × (changed_shape t h ≡ false) }
     ensures { result ≡ followed_by t h }
 {
-    let who = t.who;
-    let shape = Shape {
-        rate: h.rate,
-        channels: h.channels,
-        format: h.format,
-    };
-    let line = crate::line::next(t, h, place);
     Take {
-        who,
+        who: t.who,
         begun: true,
-        shape,
-        line,
+        shape: Shape {
+            rate: h.rate,
+            channels: h.channels,
+            format: h.format,
+        },
+        line: crate::line::next(t, h, place),
     }
 }
 
@@ -69,24 +66,30 @@ fn accept(t: Take, h: Header, d: &[u8], track: &mut [u8]) -> Followed
     }
 }
 
-// Judges a datagram and, where it is accepted, lays its records down.
-fn followed(name: &[u8], take: Take, address: u32, datagram: &[u8], track: &mut [u8]) -> Followed
-    requires { (name.now ≡ take.who.name) × (length name.now ≡ 16) }
+// Judges a datagram and, where it is accepted, lays its records down. A refusal tells zeros and leaves the take.
+fn followed(
+    name: &[u8; 16],
+    take: Take,
+    address: u32,
+    datagram: &[u8],
+    track: &mut [u8],
+) -> Followed
+    requires { name.now ≡ take.who.name }
     ensures value { result ≡ followed_of take address datagram.now track.old }
     ensures track_after { track.new ≡ followed_track take address datagram.now track.old }
 {
-    let judged = crate::judge::judge(name, take, address, datagram, track::held(track));
-    let answer = judged.answer;
-    if answers::number(answer) != 0 {
-        let told = Told {
-            answer,
-            place: 0,
-            frames: 0,
-            skipped: 0,
-        };
-        return Followed { told, take };
+    match crate::judge::judge(name, take, address, datagram, track::held(track)) {
+        Ok(header) => accept(take, header, datagram, track),
+        Err(answer) => Followed {
+            told: Told {
+                answer,
+                place: 0,
+                frames: 0,
+                skipped: 0,
+            },
+            take,
+        },
     }
-    accept(take, judged.header, datagram, track)
 }
 
 // The same, and the answer's count raised.
@@ -94,12 +97,9 @@ pub fn follow(take: Take, tally: Tally, address: u32, datagram: &[u8], track: &m
     ensures answer { result ≡ tallied_of take tally address datagram.now track.old }
     ensures track { track.new ≡ followed_track take address datagram.now track.old }
 {
-    let name = take.who.name;
-    let followed = followed(&name, take, address, datagram, track);
-    let told = followed.told;
-    let answer = told.answer;
+    let followed = followed(&take.who.name, take, address, datagram, track);
     Tallied {
         followed,
-        tally: crate::counts::raise(tally, answer),
+        tally: crate::counts::raise(tally, followed.told.answer),
     }
 }

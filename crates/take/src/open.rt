@@ -3,38 +3,23 @@ ghost use Rattle.std.specs.Prelude.{◌≡◌};
 ghost use Rattle.take_rules.specs.Take.{unbegun_for, no_take, open_of, opened_track};
 
 use answers::Answer;
-use take_rules::{Line, Opened, Shape, Take, Who};
+use take_rules::{Opened, Take, Who};
 
 // A take that has accepted nothing yet.
 fn unbegun(who: Who) -> Take
     ensures { result ≡ unbegun_for who }
 {
-    let shape = Shape {
-        rate: 0,
-        channels: 0,
-        format: 0,
-    };
-    let line = Line {
-        n: 0,
-        newest: 0,
-        place: 0,
-    };
     Take {
         who,
-        begun: false,
-        shape,
-        line,
+        ..Take::default()
     }
 }
 
-// The all_zero take.
+// The all-zero take.
 fn none() -> Take
     ensures { result ≡ no_take }
 {
-    unbegun(Who {
-        name: [0u8; 16],
-        address: 0,
-    })
+    Take::default()
 }
 
 // Fixes the name and the sender's address, and clears all whole records.
@@ -49,9 +34,8 @@ pub fn open(name: [u8; 16], address: u32, track: &mut [u8]) -> Opened
         };
     }
     track::clear(track);
-    let kept = wire::name::kept(&name);
     let who = Who {
-        name: kept,
+        name: wire::name::kept(&name),
         address,
     };
     Opened {

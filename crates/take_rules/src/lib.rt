@@ -4,14 +4,14 @@
 use answers::Answer;
 
 // Whose datagrams a take follows.
-#[derive(Clone, Copy)]
+#[derive(Clone, Copy, Default)]
 pub struct Who {
     pub name: [u8; 16],
     pub address: u32,
 }
 
 // What the first packet accepted fixes.
-#[derive(Clone, Copy)]
+#[derive(Clone, Copy, Default)]
 pub struct Shape {
     pub rate: u8,
     pub channels: u16,
@@ -19,7 +19,7 @@ pub struct Shape {
 }
 
 // What places the next packet: N, and the counter and place of the newest one accepted.
-#[derive(Clone, Copy)]
+#[derive(Clone, Copy, Default)]
 pub struct Line {
     pub n: u16,
     pub newest: u32,
@@ -27,7 +27,7 @@ pub struct Line {
 }
 
 // One stream being followed; shape and line are zero until it has begun.
-#[derive(Clone, Copy)]
+#[derive(Clone, Copy, Default)]
 pub struct Take {
     pub who: Who,
     pub begun: bool,
@@ -66,7 +66,7 @@ pub struct Followed {
 }
 
 // One count for each answer of following.
-#[derive(Clone, Copy)]
+#[derive(Clone, Copy, Default)]
 pub struct Tally {
     pub counts: [u32; 17],
 }

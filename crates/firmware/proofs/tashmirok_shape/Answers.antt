@@ -3,4 +3,4 @@ use Rattle.firmware.proofs.Following.{loaded_name}
 use Rattle.firmware.proofs.tashmirok_shape.Goals as goal
 
 pub bad_state-requires : goal.bad_state-requires
-bad_state-requires c = loaded_name _ _ c.load-t.ensures
+bad_state-requires c = search loaded_name

@@ -4,4 +4,4 @@ use Rattle.kept.proofs.Keeping.{tail_stored}
 use Rattle.kept.proofs.store_tail.Goals as goal
 
 pub returns : goal.returns
-returns c = search (tail_stored, rules) depth 6 fits 6000
+returns c = search (tail_stored, rules)

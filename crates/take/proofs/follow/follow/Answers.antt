@@ -1,7 +1,6 @@
 -- What following gives, and the tally.
-use Rattle.std.proofs.Common.{rules}
 use Rattle.take.proofs.Following.{tallied}
 use Rattle.take.proofs.follow.follow.Goals as goal
 
-pub returns : goal.returns
-returns c = record { answer = search tallied; track = search rules }
+pub returns-clause-answer : goal.returns-clause-answer
+returns-clause-answer c = search tallied
