@@ -9,7 +9,7 @@ ghost use Rattle.take.specs.Judging.{accepted_by, Asked};
 
 use answers::Answer;
 use formats::Format;
-use take_rules::{Followed, Shape, Take, Tallied, Tally, Told};
+use take_rules::{Followed, Take, Tallied, Tally, Told};
 use wire_rules::{HEADER, Header};
 
 // The take after a packet at `place`. What the first packet fixed is the same in each that is accepted.
@@ -20,11 +20,7 @@ pub fn followed_by(t: Take, h: Header, place: usize) -> Take
     Take {
         who: t.who,
         begun: true,
-        shape: Shape {
-            rate: h.rate,
-            channels: h.channels,
-            format: h.format,
-        },
+        shape: crate::judge::shape_of(h),
         line: crate::line::next(t, h, place),
     }
 }

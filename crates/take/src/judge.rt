@@ -3,7 +3,7 @@ ghost use Rattle.std.specs.Prelude.{◌≡◌, true, false, length};
 ghost use Rattle.lists.specs.Tables.{checked};
 ghost use Rattle.wire_rules.specs.Names.{good_name};
 ghost use Rattle.take_rules.specs.Take.{bad_shape, bad_line, bad_state};
-ghost use Rattle.take_rules.specs.Follow.{other_shape, changed_shape, take_rows, stream_rows, packet_rows, follow_rows};
+ghost use Rattle.take_rules.specs.Follow.{shape_of, changed_shape, take_rows, stream_rows, packet_rows, follow_rows};
 ghost use Rattle.take.specs.Judging.{named_rows, judged_by};
 
 use answers::Answer;
@@ -68,16 +68,21 @@ fn check_stream(name: &[u8; 16], t: Take, address: u32, d: &[u8]) -> Result<(), 
 
 // ---- the packet
 
-fn is_other_shape(s: Shape, h: Header) -> bool
-    ensures { result ≡ other_shape s h }
+// What a packet has of a take's shape.
+pub(crate) fn shape_of(h: Header) -> Shape
+    ensures { result ≡ shape_of h }
 {
-    h.rate != s.rate || h.channels != s.channels || h.format != s.format
+    Shape {
+        rate: h.rate,
+        channels: h.channels,
+        format: h.format,
+    }
 }
 
 fn is_changed(t: Take, h: Header) -> bool
     ensures { result ≡ changed_shape t h }
 {
-    t.begun && (is_other_shape(t.shape, h) || t.line.n < h.frames)
+    t.begun && (shape_of(h) != t.shape || t.line.n < h.frames)
 }
 
 // Rows 12 to 15.

@@ -11,7 +11,7 @@ pub struct Who {
 }
 
 // What the first packet accepted fixes.
-#[derive(Clone, Copy, Default)]
+#[derive(Clone, Copy, Default, PartialEq, Eq)]
 pub struct Shape {
     pub rate: u8,
     pub channels: u16,
