@@ -75,8 +75,11 @@ fn take_samples(h: Header, track: &[u8], from: usize, out: &mut [u8])
     requires channels_bound { (h.channels ≤ 8) × (from + h.frames ≤ records_held track.now) × (header_size + data_size h ≤ length out.old) }
     ensures { out.new ≡ put out.old header_size (taken_by h track.now from) }
 {
+    let Format::Whole(f) = Format::from(h.format) else {
+        unreachable!()
+    };
     track_out::take_out(
-        Format::of_index(h.format),
+        f,
         track,
         from,
         h.frames as usize,

@@ -8,21 +8,12 @@ ghost use Rattle.lists.specs.Little.{bytes_of};
 ghost use Rattle.track_rules.specs.Records.{record_bytes, taken_of};
 ghost use Rattle.records.specs.Frames.{sent_at, frame_out, frames_out, run_out};
 
-use formats::Integer;
-use samples::slots;
+use records::taken;
+use samples::slots::Signed16;
 use track_rules::RECORD;
 
-const TWO_RECORDS: usize = 2 * RECORD;
-
-// Slot `c` of the record at `at`, as a sample.
-fn sample(track: &[u8], at: usize, c: usize) -> u32
-    requires { (c < 8) × (at + record_bytes ≤ length track.now) }
-    ensures { (result ≡ sent_at signed16 track.now at c) × (result < 65536) }
-{
-    slots::to_signed16(records::slot(track, at, c))
-}
-
 // Two samples joined in a word of four bytes: stores of two would not be joined.
+#[tactic(auto, using(crate::proofs::Joins::two_halves))]
 fn two(v: u32, w: u32) -> u32
     requires { (v < 65536) × (w < 65536) }
     ensures { bytes_of 4 result ≡ bytes_of 2 v ++ bytes_of 2 w }
@@ -31,59 +22,37 @@ fn two(v: u32, w: u32) -> u32
 }
 
 // Two channels as a word.
+#[tactic(auto, using(crate::proofs::Joins::two_channels))]
 fn pair(track: &[u8], at: usize, c: usize) -> u32
     requires { (c + 2 ≤ 8) × (at + record_bytes ≤ length track.now) }
     ensures { bytes_of 4 result ≡ run_out signed16 track.now at c 2 }
 {
-    let v = sample(track, at, c);
-    let w = sample(track, at, c + 1);
+    let v = taken::sample::<Signed16>(track, at, c);
+    let w = taken::sample::<Signed16>(track, at, c + 1);
     two(v, w)
 }
 
-fn frame(track: &[u8], at: usize, channels: usize, out: &mut [u8])
-    requires { (channels ≤ 8) × (at + record_bytes ≤ length track.now) × (length out.old ≡ channels * size_of signed16) }
-    ensures { out.new ≡ frame_out signed16 track.now at channels }
+// Two channels: a frame is a word.
+fn pairs(track: &[u8], first: usize, frames: usize, out: &mut [u8], at: usize)
+    requires { ((first + frames) * record_bytes ≤ length track.now) × (at + frames * (2 * size_of signed16) ≤ length out.old) }
+    ensures { out.new ≡ put out.old at (taken_of signed16 track.now first frames 2) }
 {
-    if channels == 2 {
-        let v = pair(track, at, 0);
-        words::put4(out, v);
-        return;
-    }
-    let mut c = 0;
-    while c < channels {
-        let a = c * Integer::SIGNED16_SIZE;
-        let e = a + Integer::SIGNED16_SIZE;
-        let v = sample(track, at, c);
-        words::put2(&mut out[a..e], v);
-        c += 1;
-    }
-}
-
-// A frame a turn. Called with a literal count, the tests on it fold away.
-fn some(track: &[u8], first: usize, frames: usize, channels: usize, out: &mut [u8], at: usize)
-    requires { (channels ≤ 8) × ((first + frames) * record_bytes ≤ length track.now) × (at + frames * (channels * size_of signed16) ≤ length out.old) }
-    ensures { out.new ≡ put out.old at (taken_of signed16 track.now first frames channels) }
-{
-    let step = channels * Integer::SIGNED16_SIZE;
-    let mut k = 0;
-    let mut from = first * RECORD;
-    let mut a = at;
-    while k < frames {
-        let e = a + step;
-        frame(track, from, channels, &mut out[a..e]);
-        from += RECORD;
-        a = e;
-        k += 1;
+    for k in 0..frames {
+        let v = pair(track, (first + k) * RECORD, 0);
+        let a = at + k * 4;
+        let e = a + 4;
+        words::put4(&mut out[a..e], v);
     }
 }
 
 // Two frames of one channel as a word.
+#[tactic(auto, using(crate::proofs::Joins::two_frames))]
 fn two_frames(track: &[u8], at: usize) -> u32
     requires { at + 2 * record_bytes ≤ length track.now }
     ensures { bytes_of 4 result ≡ frames_out signed16 track.now at record_bytes 2 1 }
 {
-    let v = sample(track, at, 0);
-    let w = sample(track, at + RECORD, 0);
+    let v = taken::sample::<Signed16>(track, at, 0);
+    let w = taken::sample::<Signed16>(track, at + RECORD, 0);
     two(v, w)
 }
 
@@ -93,18 +62,13 @@ fn ones(track: &[u8], first: usize, frames: usize, out: &mut [u8], at: usize)
     ensures { out.new ≡ put out.old at (taken_of signed16 track.now first frames 1) }
 {
     let count = frames / 2;
-    let mut k = 0;
-    let mut from = first * RECORD;
-    let mut a = at;
-    while k < count {
-        let v = two_frames(track, from);
+    for k in 0..count {
+        let v = two_frames(track, (first + k * 2) * RECORD);
+        let a = at + k * 4;
         let e = a + 4;
         words::put4(&mut out[a..e], v);
-        from += TWO_RECORDS;
-        a = e;
-        k += 1;
     }
-    some(track, first + count * 2, frames % 2, 1, out, a);
+    taken::some::<Signed16>(track, first + count * 2, frames % 2, 1, out, at + count * 4);
 }
 
 // Frames of eight channels are straight-line code: the loop over the channels would not unroll at eight. All is read before any is
@@ -127,15 +91,10 @@ fn full(track: &[u8], first: usize, frames: usize, out: &mut [u8], at: usize)
     requires { ((first + frames) * record_bytes ≤ length track.now) × (at + frames * (8 * size_of signed16) ≤ length out.old) }
     ensures { out.new ≡ put out.old at (taken_of signed16 track.now first frames 8) }
 {
-    let mut k = 0;
-    let mut from = first * RECORD;
-    let mut a = at;
-    while k < frames {
+    for k in 0..frames {
+        let a = at + k * 16;
         let e = a + 16;
-        full_frame(track, from, &mut out[a..e]);
-        from += RECORD;
-        a = e;
-        k += 1;
+        full_frame(track, (first + k) * RECORD, &mut out[a..e]);
     }
 }
 
@@ -150,17 +109,10 @@ pub fn take_out(
     requires { (channels ≤ 8) × ((first + frames) * record_bytes ≤ length track.now) × (at + frames * (channels * size_of signed16) ≤ length out.old) }
     ensures { out.new ≡ put out.old at (taken_of signed16 track.now first frames channels) }
 {
-    if channels == 2 {
-        some(track, first, frames, 2, out, at);
-        return;
+    match channels {
+        1 => ones(track, first, frames, out, at),
+        2 => pairs(track, first, frames, out, at),
+        8 => full(track, first, frames, out, at),
+        _ => taken::some::<Signed16>(track, first, frames, channels, out, at),
     }
-    if channels == 8 {
-        full(track, first, frames, out, at);
-        return;
-    }
-    if channels == 1 {
-        ones(track, first, frames, out, at);
-        return;
-    }
-    some(track, first, frames, channels, out, at);
 }

@@ -11,6 +11,7 @@ fn flipped(w: u32) -> u32
 }
 
 // Four samples of 8 bits, which come less 128.
+#[tactic(auto, using(crate::proofs::Joins::four_bytes))]
 pub fn four(v: u32, w: u32, x: u32, y: u32) -> u32
     requires { (v < 256) × (w < 256) × (x < 256) × (y < 256) }
     ensures { bytes_of 4 result ≡ (v + 128) % 256 ∷ (w + 128) % 256 ∷ (x + 128) % 256 ∷ (y + 128) % 256 ∷ [] }

@@ -8,33 +8,15 @@ ghost use Rattle.lists.specs.Little.{bytes_of};
 ghost use Rattle.track_rules.specs.Records.{record_bytes, taken_of};
 ghost use Rattle.records.specs.Frames.{sent_at, frame_out, frames_out, run_out};
 
-use formats::Integer;
+use records::taken;
 use samples::slots;
+use samples::slots::Unsigned8;
 use track_rules::RECORD;
 
 mod join;
 
-const TWO_RECORDS: usize = 2 * RECORD;
-
-const THREE_RECORDS: usize = 3 * RECORD;
-
-const FOUR_RECORDS: usize = 4 * RECORD;
-
-const EIGHT_RECORDS: usize = 8 * RECORD;
-
-const TWELVE_RECORDS: usize = 12 * RECORD;
-
-const SIXTEEN_RECORDS: usize = 16 * RECORD;
-
-// Slot `c` of the record at `at`, as a sample.
-fn sample(track: &[u8], at: usize, c: usize) -> u32
-    requires { (c < 8) × (at + record_bytes ≤ length track.now) }
-    ensures { (result ≡ sent_at unsigned8 track.now at c) × (result < 256) }
-{
-    slots::to_unsigned8(records::slot(track, at, c))
-}
-
-// The same less 128, for samples that go into a word.
+// Slot `c` of the record at `at` as a sample less 128, for samples that go into a word.
+#[tactic(auto, using(records::proofs::Taking::sent))]
 fn centred(track: &[u8], at: usize, c: usize) -> u32
     requires { (c < 8) × (at + record_bytes ≤ length track.now) }
     ensures { ((result + 128) % 256 ≡ sent_at unsigned8 track.now at c) × (result < 256) }
@@ -42,47 +24,16 @@ fn centred(track: &[u8], at: usize, c: usize) -> u32
     slots::to_signed8(records::slot(track, at, c))
 }
 
-fn frame(track: &[u8], at: usize, channels: usize, out: &mut [u8])
-    requires { (channels ≤ 8) × (at + record_bytes ≤ length track.now) × (length out.old ≡ channels * size_of unsigned8) }
-    ensures { out.new ≡ frame_out unsigned8 track.now at channels }
-{
-    let mut c = 0;
-    while c < channels {
-        let a = c * Integer::UNSIGNED8_SIZE;
-        let e = a + Integer::UNSIGNED8_SIZE;
-        let v = sample(track, at, c);
-        words::put1(&mut out[a..e], v);
-        c += 1;
-    }
-}
-
-// A frame a turn. Called with a literal count, the loop over the channels folds away.
-fn some(track: &[u8], first: usize, frames: usize, channels: usize, out: &mut [u8], at: usize)
-    requires { (channels ≤ 8) × ((first + frames) * record_bytes ≤ length track.now) × (at + frames * (channels * size_of unsigned8) ≤ length out.old) }
-    ensures { out.new ≡ put out.old at (taken_of unsigned8 track.now first frames channels) }
-{
-    let step = channels * Integer::UNSIGNED8_SIZE;
-    let mut k = 0;
-    let mut from = first * RECORD;
-    let mut a = at;
-    while k < frames {
-        let e = a + step;
-        frame(track, from, channels, &mut out[a..e]);
-        from += RECORD;
-        a = e;
-        k += 1;
-    }
-}
-
 // Four frames of one channel as a word.
+#[tactic(auto, using(crate::proofs::Joins::four_frames))]
 fn four_frames(track: &[u8], at: usize) -> u32
     requires { at + 4 * record_bytes ≤ length track.now }
     ensures { bytes_of 4 result ≡ frames_out unsigned8 track.now at record_bytes 4 1 }
 {
     let v = centred(track, at, 0);
     let w = centred(track, at + RECORD, 0);
-    let x = centred(track, at + TWO_RECORDS, 0);
-    let y = centred(track, at + THREE_RECORDS, 0);
+    let x = centred(track, at + 2 * RECORD, 0);
+    let y = centred(track, at + 3 * RECORD, 0);
     join::four(v, w, x, y)
 }
 
@@ -93,9 +44,9 @@ fn sixteen_frames(track: &[u8], at: usize, out: &mut [u8])
     ensures { out.new ≡ frames_out unsigned8 track.now at record_bytes 16 1 }
 {
     let v = four_frames(track, at);
-    let w = four_frames(track, at + FOUR_RECORDS);
-    let x = four_frames(track, at + EIGHT_RECORDS);
-    let y = four_frames(track, at + TWELVE_RECORDS);
+    let w = four_frames(track, at + 4 * RECORD);
+    let x = four_frames(track, at + 8 * RECORD);
+    let y = four_frames(track, at + 12 * RECORD);
     words::put4(&mut out[0..4], v);
     words::put4(&mut out[4..8], w);
     words::put4(&mut out[8..12], x);
@@ -110,20 +61,18 @@ fn ones(track: &[u8], first: usize, frames: usize, out: &mut [u8], at: usize)
 {
     let count = frames / 16;
     let end = (first + frames) * RECORD;
-    let mut k = 0;
-    let mut from = first * RECORD;
-    let mut a = at;
-    while k < count {
+    for k in 0..count {
+        let from = ((first + k * 16) * RECORD).min(end);
+        let a = at + k * 16;
         let e = a + 16;
         sixteen_frames(track, from, &mut out[a..e]);
-        from = lists::at_most(from + SIXTEEN_RECORDS, end);
-        a = e;
-        k += 1;
     }
-    some(track, first + count * 16, frames % 16, 1, out, a);
+    let done = count * 16;
+    taken::some::<Unsigned8>(track, first + done, frames % 16, 1, out, at + done);
 }
 
 // Two frames of two channels as a word.
+#[tactic(auto, using(crate::proofs::Joins::two_pairs))]
 fn two_frames(track: &[u8], at: usize) -> u32
     requires { at + 2 * record_bytes ≤ length track.now }
     ensures { bytes_of 4 result ≡ frames_out unsigned8 track.now at record_bytes 2 2 }
@@ -141,21 +90,17 @@ fn pairs(track: &[u8], first: usize, frames: usize, out: &mut [u8], at: usize)
     ensures { out.new ≡ put out.old at (taken_of unsigned8 track.now first frames 2) }
 {
     let count = frames / 2;
-    let mut k = 0;
-    let mut from = first * RECORD;
-    let mut a = at;
-    while k < count {
-        let v = two_frames(track, from);
+    for k in 0..count {
+        let v = two_frames(track, (first + k * 2) * RECORD);
+        let a = at + k * 4;
         let e = a + 4;
         words::put4(&mut out[a..e], v);
-        from += TWO_RECORDS;
-        a = e;
-        k += 1;
     }
-    some(track, first + count * 2, frames % 2, 2, out, a);
+    taken::some::<Unsigned8>(track, first + count * 2, frames % 2, 2, out, at + count * 4);
 }
 
 // Four channels as a word.
+#[tactic(auto, using(crate::proofs::Joins::four_channels))]
 fn four(track: &[u8], at: usize, c: usize) -> u32
     requires { (c + 4 ≤ 8) × (at + record_bytes ≤ length track.now) }
     ensures { bytes_of 4 result ≡ run_out unsigned8 track.now at c 4 }
@@ -183,15 +128,10 @@ fn full(track: &[u8], first: usize, frames: usize, out: &mut [u8], at: usize)
     requires { ((first + frames) * record_bytes ≤ length track.now) × (at + frames * (8 * size_of unsigned8) ≤ length out.old) }
     ensures { out.new ≡ put out.old at (taken_of unsigned8 track.now first frames 8) }
 {
-    let mut k = 0;
-    let mut from = first * RECORD;
-    let mut a = at;
-    while k < frames {
+    for k in 0..frames {
+        let a = at + k * 8;
         let e = a + 8;
-        full_frame(track, from, &mut out[a..e]);
-        from += RECORD;
-        a = e;
-        k += 1;
+        full_frame(track, (first + k) * RECORD, &mut out[a..e]);
     }
 }
 
@@ -206,17 +146,10 @@ pub fn take_out(
     requires { (channels ≤ 8) × ((first + frames) * record_bytes ≤ length track.now) × (at + frames * (channels * size_of unsigned8) ≤ length out.old) }
     ensures { out.new ≡ put out.old at (taken_of unsigned8 track.now first frames channels) }
 {
-    if channels == 2 {
-        pairs(track, first, frames, out, at);
-        return;
+    match channels {
+        1 => ones(track, first, frames, out, at),
+        2 => pairs(track, first, frames, out, at),
+        8 => full(track, first, frames, out, at),
+        _ => taken::some::<Unsigned8>(track, first, frames, channels, out, at),
     }
-    if channels == 8 {
-        full(track, first, frames, out, at);
-        return;
-    }
-    if channels == 1 {
-        ones(track, first, frames, out, at);
-        return;
-    }
-    some(track, first, frames, channels, out, at);
 }

@@ -10,7 +10,7 @@ use Rattle.lists.specs.Lists.{put, up_to}
 use Rattle.lists.specs.Little.{little, bytes_of}
 use Rattle.lists.proofs.Lists.{up_to_length, up_to_same, up_to_more, put_none}
 use Rattle.lists.proofs.Little.{bytes_length}
-use Rattle.lists.proofs.Loops.{Pieces, start, next, end_whole, Walking, walk_start, walk_end}
+use Rattle.lists.proofs.Loops.{Pieces, start, next, end, end_whole}
 use Rattle.formats.specs.declared.Format.{Format}
 use Rattle.formats.specs.Formats.{size_of}
 use Rattle.sample_rules.specs.Bits.{sent_of}
@@ -31,20 +31,20 @@ module _ (f : Format) (t : List ℕ) (at : ℕ) where
   unfolding frame_out
   frame_length channels = up_to_length (size_of f) (sent_bytes f t at) sent_length channels
 
-  -- the loop over its channels: after c turns c samples are written
-  module _ (channels : ℕ) (out₀ : List ℕ) (h : length out₀ ≡ channels * size_of f) where
-    pub frame_start : Pieces (size_of f) (sent_bytes f t at) channels out₀ 0 out₀ 0
-    frame_start = start (size_of f) (sent_bytes f t at) sent_length channels out₀ 0 (omega arith)
+  -- the loop over its channels, of w bytes each: after c turns c samples are written
+  module _ (w : ℕ) (e : w ≡ size_of f) (channels : ℕ) (out₀ : List ℕ) (h : length out₀ ≡ channels * size_of f) where
+    pub frame_start : Pieces w (sent_bytes f t at) channels out₀ 0 out₀ 0
+    frame_start = rw e (start (size_of f) (sent_bytes f t at) sent_length channels out₀ 0 (omega arith))
 
-    module _ (out : List ℕ) (c : ℕ) (l : Pieces (size_of f) (sent_bytes f t at) channels out₀ 0 out c) where
-      pub frame_next : (v : ℕ) (ys : List ℕ) → c < channels → ys ≡ bytes_of (size_of f) v → v ≡ sent_at f t at c
-          → Pieces (size_of f) (sent_bytes f t at) channels out₀ 0 (put_mid (c * size_of f) (c * size_of f + size_of f - c * size_of f) out ys) (c + 1)
-      frame_next v ys g p q =
-          next (size_of f) (sent_bytes f t at) channels out₀ 0 out c l (c * size_of f) ys g (sym (zero-add (c * size_of f))) (p ∙ ap (bytes_of (size_of f)) q)
+    module _ (out : List ℕ) (c : ℕ) (l : Pieces w (sent_bytes f t at) channels out₀ 0 out c) where
+      pub frame_next : (a v : ℕ) (ys : List ℕ) → c < channels → a ≡ c * w → ys ≡ bytes_of w v → v ≡ sent_at f t at c
+          → Pieces w (sent_bytes f t at) channels out₀ 0 (put_mid a (a + w - a) out ys) (c + 1)
+      frame_next a v ys g i p q =
+          next w (sent_bytes f t at) channels out₀ 0 out c l a ys g (i ∙ sym (zero-add (c * w))) (p ∙ rw (e, q))
 
       pub frame_end : channels ≤ c → out ≡ frame_out f t at channels
       unfolding frame_out
-      frame_end g = end_whole (size_of f) (sent_bytes f t at) channels out₀ out c l h g
+      frame_end g = end_whole w (sent_bytes f t at) channels out₀ out c l (rw e h) g
 
 -- ---- frames
 
@@ -90,24 +90,29 @@ pub none : (f : Format) (t : List ℕ) (first frames channels : ℕ) (out₀ : L
 unfolding taken_of up_to
 none f t first frames channels out₀ place e = rw e (put_none out₀ place)
 
--- the loop: after k turns k frames are written, the next read at at and written at a
-abbrev pub Taking : Format → ℕ → List ℕ → ℕ → ℕ → ℕ → List ℕ → ℕ → List ℕ → ℕ → ℕ → ℕ → Type 0
-Taking f channels t s step frames out₀ place out k at a =
-    Walking (channels * size_of f) (λ i. frame_out f t i channels) s step frames out₀ place out k at a
+-- the loop: after k turns k frames are written, each read step bytes after the one before
+abbrev pub Taking : Format → ℕ → List ℕ → ℕ → ℕ → ℕ → List ℕ → ℕ → List ℕ → ℕ → Type 0
+Taking f channels t s step frames out₀ place out k =
+    Pieces (channels * size_of f) (λ i. frame_out f t (s + i * step) channels) frames out₀ place out k
 
 module _ (f : Format) (channels : ℕ) (t : List ℕ) (s step frames : ℕ) (out₀ : List ℕ) (place : ℕ) where
-  pub take_start : place + frames * (channels * size_of f) ≤ length out₀ → Taking f channels t s step frames out₀ place out₀ 0 s place
-  take_start m = walk_start (channels * size_of f) (λ i. frame_out f t i channels) (λ i. frame_length f t i channels) s step frames out₀ place m
+  pub take_start : place + frames * (channels * size_of f) ≤ length out₀ → Taking f channels t s step frames out₀ place out₀ 0
+  take_start m = start (channels * size_of f) _ (λ i. frame_length f t (s + i * step) channels) frames out₀ place m
 
-  pub take_end : (out : List ℕ) (k at a : ℕ) → Taking f channels t s step frames out₀ place out k at a → frames ≤ k
-      → out ≡ put out₀ place (frames_out f t s step frames channels)
-  unfolding frames_out
-  take_end out k at a l h = walk_end (channels * size_of f) (λ i. frame_out f t i channels) s step frames out₀ place out k at a l h
+  module _ (out : List ℕ) (k : ℕ) (l : Taking f channels t s step frames out₀ place out k) where
+    -- the next is read at at and written at a, w bytes of it
+    pub take_next : (at a w : ℕ) (ys : List ℕ) → k < frames → at ≡ s + k * step → a ≡ place + k * w → w ≡ channels * size_of f
+        → ys ≡ frame_out f t at channels → Taking f channels t s step frames out₀ place (put_mid a (a + w - a) out ys) (k + 1)
+    take_next at a w ys h i j e p = rw e (next (channels * size_of f) _ frames out₀ place out k l a ys h (rw (← e) j) (p ∙ rw i))
 
-pub taken : (f : Format) (channels : ℕ) (t : List ℕ) (first frames : ℕ) (out₀ : List ℕ) (place : ℕ) (out : List ℕ) (k at a : ℕ)
-    → Taking f channels t (first * 24) 24 frames out₀ place out k at a → frames ≤ k → out ≡ put out₀ place (taken_of f t first frames channels)
-taken f channels t first frames out₀ place out k at a l h =
-    take_end f channels t (first * 24) 24 frames out₀ place out k at a l h ∙ rw (taken_frames f t first frames channels)
+    pub take_end : frames ≤ k → out ≡ put out₀ place (frames_out f t s step frames channels)
+    unfolding frames_out
+    take_end h = end (channels * size_of f) _ frames out₀ place out k l h
+
+pub taken : (f : Format) (channels : ℕ) (t : List ℕ) (first frames : ℕ) (out₀ : List ℕ) (place : ℕ) (out : List ℕ) (k : ℕ)
+    → Taking f channels t (first * 24) 24 frames out₀ place out k → frames ≤ k → out ≡ put out₀ place (taken_of f t first frames channels)
+taken f channels t first frames out₀ place out k l h =
+    take_end f channels t (first * 24) 24 frames out₀ place out k l h ∙ rw (taken_frames f t first frames channels)
 
 -- a call for a count that is a literal, where the channels are that many
 pub taken_count : (f : Format) (t : List ℕ) (first frames channels n : ℕ) (out₀ out : List ℕ) (at : ℕ) → channels ≡ n

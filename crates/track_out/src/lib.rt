@@ -3,14 +3,15 @@
 
 ghost use Rattle.std.specs.Prelude.{◌≡◌, ◌+◌, ◌*◌, ◌≤◌, length};
 ghost use Rattle.lists.specs.Lists.{put};
-ghost use Rattle.formats.specs.declared.Format.TheVariants.{Whole, Other};
-ghost use Rattle.formats.specs.Formats.{whole_size, size_of};
+ghost use Rattle.formats.specs.declared.Format.TheVariants.{Whole};
+ghost use Rattle.formats.specs.Formats.{whole_size};
 ghost use Rattle.track_rules.specs.Records.{record_bytes, taken_of};
 
-use formats::{Format, Integer};
+use formats::Integer;
 
-// Whole numbers, each by its own loops.
-fn take_whole(
+// Takes frames out of the track from record `first` on, as a packet's data written over `out` from byte `at` on: each type by its own
+// loops.
+pub fn take_out(
     f: Integer,
     track: &[u8],
     first: usize,
@@ -27,25 +28,5 @@ fn take_whole(
         Integer::Signed16 => out16::take_out(track, first, frames, channels, out, at),
         Integer::Signed24 => out24::take_out(track, first, frames, channels, out, at),
         Integer::Signed32 => out32::take_out(track, first, frames, channels, out, at),
-    }
-}
-
-// Takes frames out of the track from record `first` on, as a packet's data written over `out` from byte `at` on.
-pub fn take_out(
-    f: Format,
-    track: &[u8],
-    first: usize,
-    frames: usize,
-    channels: usize,
-    out: &mut [u8],
-    at: usize,
-)
-    requires fact { f ≡ Other → ⊥ }
-    requires channels_bound { (channels ≤ 8) × ((first + frames) * record_bytes ≤ length track.now) × (at + frames * (channels * size_of f) ≤ length out.old) }
-    ensures { out.new ≡ put out.old at (taken_of f track.now first frames channels) }
-{
-    match f {
-        Format::Whole(w) => take_whole(w, track, first, frames, channels, out, at),
-        Format::Other => {}
     }
 }

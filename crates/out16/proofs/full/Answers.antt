@@ -1,31 +1,16 @@
 -- A frame a turn, each in the part of the data that it is lent.
-use Prim.Native.Nat.{◌+◌, ◌*◌, ◌-◌, ◌≤◌}
+use mathlib.Core.Path.{refl}
 use native.Mathlib.Omega.{arith}
-use lib.ListN.{length}
-use borrow.Author.Rules.{rules}
 use Rattle.formats.specs.Formats.{signed16}
-use Rattle.lists.proofs.Loops.{walk_there, walk_next}
-use Rattle.records.proofs.Taking.{Taking, take_start, taken}
+use Rattle.records.proofs.Taking.{take_start, take_next, taken}
 use Rattle.out16.proofs.full.Goals as goal
 
 pub loop-k-init : goal.loop-k-init
-loop-k-init c = search take_start
-
-pub overflow_add-e : goal.overflow_add-e
-overflow_add-e c =
-    let has : c.loop-k.a + 16 ≤ length c.loop-k.out = search walk_there in
-    omega (arith, has)
-
-pub slice_bounds-full_frame-end : goal.slice_bounds-full_frame-end
-slice_bounds-full_frame-end c =
-    let has : c.loop-k.a + 16 ≤ length c.loop-k.out = search walk_there in
-    omega (arith, has)
-
-pub full_frame-requires : goal.full_frame-requires
-full_frame-requires c = (omega arith, omega (arith, c.full_frame-arg-1.given.2))
+loop-k-init c = take_start signed16 8 _ _ _ _ _ _ c.requires.1
 
 pub loop-k-preserved : goal.loop-k-preserved
-loop-k-preserved c = search walk_next
+loop-k-preserved c =
+    take_next signed16 8 _ _ _ _ _ _ _ _ c.loop-k.invariant _ _ 16 _ c.loop-k-test.true (omega arith) refl refl c.full_frame.ensures
 
 pub returns : goal.returns
-returns c = search taken
+returns c = taken signed16 8 _ _ _ _ _ _ _ c.loop-k.invariant c.loop-k-test.false

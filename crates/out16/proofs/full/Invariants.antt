@@ -1,15 +1,8 @@
 -- A frame a turn, each in the part of the data that it is lent.
-use Prim.Native.Nat.{◌+◌, ◌*◌, ◌-◌, ◌≤◌}
-use native.Mathlib.Omega.{arith}
-use lib.ListN.{length}
-use borrow.Author.Rules.{rules}
+use Prim.Native.Nat.{◌*◌}
 use Rattle.formats.specs.Formats.{signed16}
-use Rattle.lists.proofs.Loops.{walk_there, walk_next}
-use Rattle.records.proofs.Taking.{Taking, take_start, taken}
+use Rattle.records.proofs.Taking.{Taking}
 use Rattle.out16.proofs.full.Given as goal
 
 abbrev pub invariant-loop-k : goal.invariant-loop-k
-invariant-loop-k l = Taking signed16 8 l.track (l.first * 24) 24 l.frames l.initial.out l.at l.out l.k l.from l.a
-
-abbrev pub decreases-loop-k : goal.decreases-loop-k
-decreases-loop-k l = l.frames - l.k
+invariant-loop-k l = Taking signed16 8 l.track (l.first * 24) 24 l.frames l.initial.out l.at l.out l.k

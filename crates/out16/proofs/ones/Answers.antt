@@ -1,37 +1,16 @@
 -- Two frames a turn, as a word in the part of the data that it is lent, and what is left.
-use Prim.Native.Nat.{◌+◌, ◌*◌, ◌-◌, ◌≤◌}
+use mathlib.Core.Path.{refl}
 use native.Mathlib.Omega.{arith}
-use lib.ListN.{length}
-use borrow.Author.Rules.{rules}
-use Rattle.lists.proofs.Loops.{walk_there}
 use Rattle.formats.specs.Formats.{signed16}
-use Rattle.records.proofs.Groups.{Groups, group_start, group_next, rest}
+use Rattle.records.proofs.Turns.{turns_start, turns_next, turns_rest}
 use Rattle.out16.proofs.ones.Goals as goal
 
 pub loop-k-init : goal.loop-k-init
-loop-k-init c = group_start _ _ _ _ _ _ _ _ (omega arith)
-
-pub two_frames-v-requires : goal.two_frames-v-requires
-two_frames-v-requires c = omega arith
-
-pub overflow_add-e : goal.overflow_add-e
-overflow_add-e c =
-    let has : c.loop-k.a + 4 ≤ length c.loop-k.out = search walk_there in
-    omega (arith, has)
-
-pub slice_bounds-put4-end : goal.slice_bounds-put4-end
-slice_bounds-put4-end c =
-    let has : c.loop-k.a + 4 ≤ length c.loop-k.out = search walk_there in
-    omega (arith, has)
-
-pub put4-requires : goal.put4-requires
-put4-requires c = omega (arith, c.put4-arg-1.given.2)
+loop-k-init c = turns_start signed16 2 1 _ _ _ _ _ (omega arith)
 
 pub loop-k-preserved : goal.loop-k-preserved
-loop-k-preserved c = search (group_next signed16 2 1)
-
-pub some-requires : goal.some-requires
-some-requires c = (search rules, omega arith, omega arith)
+loop-k-preserved c =
+    turns_next signed16 2 1 _ _ _ _ _ _ _ c.loop-k.invariant _ _ _ _ c.loop-k-test.true refl refl c.put4.ensures c.two_frames-v.ensures
 
 pub returns : goal.returns
-returns c = search (rest signed16 2 1, rules)
+returns c = turns_rest signed16 2 1 _ _ _ _ _ _ _ c.loop-k.invariant _ _ _ refl c.loop-k-test.false refl c.some.ensures

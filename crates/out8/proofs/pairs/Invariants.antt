@@ -1,11 +1,7 @@
 -- Two frames a turn, as a word in the part of the data that it is lent, and what is left.
-use Prim.Native.Nat.{◌*◌, ◌-◌}
 use Rattle.formats.specs.Formats.{unsigned8}
-use Rattle.records.proofs.Groups.{Groups}
+use Rattle.records.proofs.Turns.{Turns}
 use Rattle.out8.proofs.pairs.Given as goal
 
 abbrev pub invariant-loop-k : goal.invariant-loop-k
-invariant-loop-k l = Groups unsigned8 2 2 l.track (l.first * 24) l.count l.initial.out l.at l.out l.k l.from l.a
-
-abbrev pub decreases-loop-k : goal.decreases-loop-k
-decreases-loop-k l = l.count - l.k
+invariant-loop-k l = Turns unsigned8 2 2 l.track l.first l.count l.initial.out l.at l.out l.k
