@@ -2,16 +2,12 @@
 use Prim.Native.Nat.{◌+◌, ◌*◌}
 use native.Mathlib.Omega.{arith}
 use Rattle.wire.proofs.Shifting.{joined}
-use Rattle.wire.proofs.bits.join_seven.Statement.{statement}
-use Rattle.wire.proofs.bits.join_seven.Tie as tie
+use Rattle.wire.proofs.bits.join_seven.Goals as goal
 
-joins : tie.Need-returns
-joins c =
+pub returns : goal.returns
+returns c =
     let a = c.args in
     rw (
       joined 256 3 a.reserved a.format (omega arith) (omega arith),
       joined 256 4 a.codec (a.format + a.reserved * 8) (omega arith) (omega arith),
     )
-
-pub join_seven_spec : {M : Type 1} → statement M
-join_seven_spec = tie.close (tie.spec joins)
