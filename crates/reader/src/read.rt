@@ -5,7 +5,7 @@ ghost use Rattle.wire_rules.specs.Header.{header_size, datagram_most, header_of,
 ghost use Rattle.wire_rules.specs.Read.{lead_rows, front_rows, length_rows, audio_rows, read_rows, read_of};
 
 use answers::Answer;
-use wire_rules::{HEADER, LONGEST, Read};
+use wire_rules::{HEADER, Header, LONGEST, Read};
 
 fn is_long(d: &[u8]) -> bool
     ensures { result ≡ ltb datagram_most (length d.now) }
@@ -85,7 +85,7 @@ pub fn read(d: &[u8]) -> Read
         }
         Err(answer) => Read {
             answer,
-            header: crate::header::none(),
+            header: Header::default(),
             size: 0,
         },
     }
