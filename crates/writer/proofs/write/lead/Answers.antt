@@ -13,8 +13,7 @@ use Rattle.lists.specs.Little.{bytes_of}
 use Rattle.lists.proofs.Little.{bytes_length}
 use Rattle.wire_rules.specs.Write.{lead_of}
 use Rattle.wire_rules.proofs.Names.{kept_length}
-use Rattle.writer.proofs.write.lead.Statement.{statement}
-use Rattle.writer.proofs.write.lead.Tie as tie
+use Rattle.writer.proofs.write.lead.Goals as goal
 
 assembled : (b4 b5 b6 b7 counter : ℕ) (name out o₁ kept count : List ℕ)
     → o₁ ≡ put out 0 (0x56 ∷ 0x42 ∷ 0x41 ∷ 0x4E ∷ b4 ∷ b5 ∷ b6 ∷ b7 ∷ []) → kept ≡ kept_name name
@@ -37,19 +36,5 @@ assembled b4 b5 b6 b7 counter name out o₁ kept count p₁ k f n w =
       k,
     )
 
-pub lead_spec : {M : Type 1} → statement M
-lead_spec =
-    tie.close
-    (tie.spec
-    (λ c. search rules)
-    (λ c κs. search rules)
-    (λ c. search rules)
-    (λ c. search rules)
-    (λ c. search rules)
-    (λ c κs. search rules)
-    (λ c. search rules)
-    (λ c. search rules)
-    (λ c. search rules)
-    (λ c κs. search rules)
-    (λ c. search rules)
-    (λ c. search (assembled, rules) depth 6 fits 6000))
+pub returns : goal.returns
+returns c = search (assembled, rules) depth 6 fits 6000
