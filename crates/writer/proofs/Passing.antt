@@ -1,9 +1,9 @@
 -- A table as a result that has something to give, by the laws of the table's own result.
 use Rattle.std.proofs.Common.{◌≡◌, refl, eqb, ne_eqb, List, [], ◌∷◌, Bool, true, false, Ok, Err}
 use lib.Dec.{T}
-use Rattle.lists.specs.Tables.{Row, choose, first, checked}
+use Rattle.lists.specs.Tables.{Row, choose, first, checked, NoneRefuses}
 use Rattle.lists.proofs.Tables.{none_says, numbered}
-use Rattle.lists.proofs.Checked.{first_ok, first_err, says_other}
+use Rattle.lists.proofs.Checked.{first_ok, first_err, says_other, none_refuses}
 use Rattle.answers.specs.declared.Made.{Made}
 use Rattle.answers.specs.declared.Made.TheVariants.{Done}
 use Rattle.answers.specs.Numbers.{number_made}
@@ -33,6 +33,10 @@ module _ {B : Type 0} (b : B) (rows : List (Row Made)) where
   -- what passes is done, with what there is to give
   pub passes_done : (r : B) → Ok r ≡ passing b rows → (first Done rows ≡ Done) × (r ≡ b)
   passes_done r e = let p = passes b rows r e in (first_ok Done rows p.0, p.1)
+
+  -- no row refuses then
+  pub passes_rows : (r : B) → Ok r ≡ passing b rows → NoneRefuses rows
+  passes_rows r e = none_refuses rows (passes b rows r e).0
 
   -- a refusal is what the table says, and has another number than 0
   pub refuses_made : (a : Made) → T (numbered Done number_made rows) → Err a ≡ passing b rows

@@ -1,15 +1,15 @@
 -- Products in place of the number of packets.
-use Rattle.std.proofs.Common.{◌≡◌, ℕ, ◌+◌, ◌-◌, ◌*◌, ◌<◌, ◌≤◌, Bool, true, false, leb, refl, arith, rules, le-ltb, lt-ltb, eq-eqb, ne_eqb, le-leb}
+use Rattle.std.proofs.Common.{◌≡◌, ℕ, ◌+◌, ◌-◌, ◌*◌, ◌<◌, ◌≤◌, Bool, true, false, leb, refl, sym, ◌∙◌, arith, le-ltb, lt-ltb, eq-eqb, ne_eqb, le-leb}
 use native.Mathlib.Nat.{div-zero}
 use native.Mathlib.Decide.{dec_lt}
 use lib.Dec.{leb-zero}
-use borrow.Author.Tests.{lt-leb}
+use borrow.Author.Tests.{lt-leb, ltb-true, ltb-false, eqb-false}
 use Rattle.lists.specs.Tables.{choose}
 use Rattle.cutter_rules.specs.Schedule.{schedule_of}
 use Rattle.cutter_rules.specs.Cut.{bad_number}
 use Rattle.cutter_rules.proofs.Scheduling.{packet_exactly}
-use Rattle.cutter.proofs.schedule.bad_number.Statement.{statement}
-use Rattle.cutter.proofs.schedule.bad_number.Tie as tie
+use Rattle.cutter.proofs.schedule.bad_number.Goals as goal
+use Rattle.cutter.proofs.schedule.bad_number.Goals.{then-frames-eq0, else-frames-eq0}
 
 whole : (b : Bool) → b ≡ choose b true false
 whole true = refl
@@ -50,12 +50,20 @@ module _ (frames n k : ℕ) where
         rw (f, ne_eqb frames 0 h, le-ltb 2147483648 (schedule_of frames n).packets (few frames n 2147483648 some (omega arith)), same_test frames n k some)
         (whole (leb (schedule_of frames n).packets k))
 
-pub bad_number_spec : {M : Type 1} → statement M
-bad_number_spec =
-    tie.close
-    (tie.spec
-    (λ c. search no_frames)
-    (λ c κs. search rules)
-    (λ c. search too_many)
-    (λ c κs. search rules)
-    (λ c. search by_number))
+pub returns-then-frames-from : goal.returns-then-frames-from
+returns-then-frames-from c =
+    let t = c.if-frames-from.true in
+    elim c.if-frames-eq0.branch [
+      | then-frames-eq0 w ↦ t ∙ no_frames c.args.frames c.args.n c.args.k w.if-frames-eq0.true
+      | else-frames-eq0 w ↦
+          t ∙ too_many c.args.frames c.args.n c.args.k w.if-frames-eq0.false _ w.from.ensures (ltb-true _ _ (sym w.value-is ∙ t))
+    ]
+
+pub returns-else-frames-from : goal.returns-else-frames-from
+returns-else-frames-from c =
+    let t = c.if-frames-from.false in
+    elim c.if-frames-eq0.branch [
+      | then-frames-eq0 w ↦ absurd (eqb-false _ _ (sym w.value-is ∙ t) w.if-frames-eq0.true)
+      | else-frames-eq0 w ↦
+          by_number c.args.frames c.args.n c.args.k w.if-frames-eq0.false _ w.from.ensures (ltb-false _ _ (sym w.value-is ∙ t)) _ c.from-else-frames-from.ensures
+    ]
