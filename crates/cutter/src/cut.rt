@@ -3,70 +3,60 @@ ghost use Rattle.std.specs.Prelude.{◌≡◌, ◌+◌, ◌≤◌, length};
 ghost use Rattle.lists.specs.Lists.{put};
 ghost use Rattle.formats.specs.Formats.{MaySend};
 ghost use Rattle.wire_rules.specs.Names.{name_of};
-ghost use Rattle.wire.specs.Measured.{measured};
 ghost use Rattle.wire_rules.specs.Header.{data_size, header_size};
 ghost use Rattle.wire_rules.specs.Write.{GoodForm, packet_of};
 ghost use Rattle.track_rules.specs.Records.{records_held};
 ghost use Rattle.cutter_rules.specs.Schedule.{schedule_of};
-ghost use Rattle.cutter_rules.specs.Cut.{packet_header, taken_by, bad_cut, cut_answer, cut_of, cut_output};
+ghost use Rattle.cutter_rules.specs.Cut.{packet_header, taken_by, cut_rows, cut_of, cut_output};
+ghost use Rattle.writer.specs.Checks.{passing};
+ghost use Rattle.cutter.specs.Checks.{form_rows};
 
 use answers::Made;
 use cutter_rules::Cut;
 use formats::Format;
 use wire_rules::Header;
 
-// The name comes measured, here and below, as the packet writer takes it.
-fn bad_cut(named: usize, h: Header) -> bool
-    requires { named ≡ measured h.name }
-    ensures { result ≡ bad_cut h }
+// Row 20; as in the packet writer, it gives how many characters the name has.
+fn check_form(name: &[u8], h: Header) -> Result<usize, Made>
+    requires { name.now ≡ h.name }
+    ensures { result ≡ passing (length (name_of h.name)) (form_rows h) }
 {
-    if writer::write::bad_form(named, h) {
-        return true;
+    let named = writer::write::check_form(name, h)?;
+    if h.channels > 8 || crate::largest::is_over(h.frames, h.format, h.channels) {
+        return Err(Made::Form);
     }
-    if h.channels > 8 {
-        return true;
-    }
-    if crate::largest::is_over(h.frames, h.format, h.channels) {
-        return true;
-    }
-    false
+    Ok(named)
 }
 
 // Packet `k`'s header, for a track of `frames` frames.
 fn packet_header(h: Header, frames: usize, k: u32) -> Header
     ensures { result ≡ packet_header h (schedule_of frames h.frames) k }
 {
-    let name = h.name;
     Header {
-        rate: h.rate,
         frames: crate::schedule::count(frames, h.frames, k),
-        channels: h.channels,
-        format: h.format,
-        name,
-        counter: std::num::wrapping_add_u32(h.counter, k),
+        counter: h.counter.wrapping_add(k),
+        ..h
     }
 }
 
 // All rows in order. Of the packet writer's only the room can still refuse: N and the track bound the packet.
-fn refusal(named: usize, h: Header, track: &[u8], k: u32, room: usize) -> Made
-    requires { named ≡ measured h.name }
-    ensures { result ≡ cut_answer h track.now k room }
+fn check(name: &[u8], h: Header, track: &[u8], k: u32, room: usize) -> Result<usize, Made>
+    requires { name.now ≡ h.name }
+    ensures { result ≡ passing (length (name_of h.name)) (cut_rows h track.now k room) }
 {
-    if bad_cut(named, h) {
-        return Made::Form;
-    }
+    let named = check_form(name, h)?;
     if track.len() % track_rules::RECORD != 0 {
-        return Made::Data;
+        return Err(Made::Data);
     }
     let frames = track::held(track);
     if crate::schedule::bad_number(frames, h.frames, k) {
-        return Made::Number;
+        return Err(Made::Number);
     }
     let hk = packet_header(h, frames, k);
     if room < wire_rules::HEADER + reader::header::data_size(hk) {
-        return Made::Room;
+        return Err(Made::Room);
     }
-    Made::Done
+    Ok(named)
 }
 
 // The frames of a packet from record `from` on, after its header.
@@ -107,20 +97,17 @@ pub fn cut_named(name: &[u8], h: Header, track: &[u8], k: u32, out: &mut [u8]) -
     ensures answer { result ≡ cut_of h track.now k out.old }
     ensures output { out.new ≡ cut_output h track.now k out.old }
 {
-    let named = wire::name::measure(name);
-    let a = refusal(named, h, track, k, out.len());
-    if answers::number_made(a) != 0 {
-        return Cut {
-            answer: a,
-            length: 0,
-        };
-    }
-    let hk = packet_header(h, track::held(track), k);
-    let from = crate::schedule::from(h.frames, k);
-    emit(name, named, hk, track, from, out);
-    Cut {
-        answer: a,
-        length: wire_rules::HEADER + reader::header::data_size(hk),
+    match check(name, h, track, k, out.len()) {
+        Ok(named) => {
+            let hk = packet_header(h, track::held(track), k);
+            let from = crate::schedule::from(h.frames, k);
+            emit(name, named, hk, track, from, out);
+            Cut {
+                answer: Made::Done,
+                length: wire_rules::HEADER + reader::header::data_size(hk),
+            }
+        }
+        Err(answer) => Cut { answer, length: 0 },
     }
 }
 

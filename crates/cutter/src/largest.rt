@@ -11,7 +11,7 @@ use formats::Format;
 fn frame_bytes(format: u8, channels: u16) -> usize
     ensures { (result ≡ channels * size_at format) × (result ≤ 65535 * 4) }
 {
-    channels as usize * Format::size_at(format)
+    usize::from(channels) * Format::size_at(format)
 }
 
 // The lesser of 256 and 1,436 divided by the frame's bytes; 0 where a frame has none.
@@ -19,14 +19,8 @@ fn frames(format: u8, channels: u16) -> u16
     ensures { result ≡ largest_frames format channels }
 {
     let bytes = frame_bytes(format, channels);
-    if bytes == 0 {
-        return 0;
-    }
-    let n = wire_rules::DATA_MOST / bytes;
-    if n > 256 {
-        return 256;
-    }
-    n as u16
+    let n = wire_rules::DATA_MOST.checked_div(bytes).unwrap_or(0);
+    n.min(256) as u16
 }
 
 // Whether so many frames, of a form that a packet can have, are over the largest N: a product in place of a division.
@@ -35,20 +29,14 @@ pub(crate) fn is_over(frames: u16, format: u8, channels: u16) -> bool
     ensures { result ≡ nat_lt (largest_frames format channels) frames }
 {
     let bytes = frame_bytes(format, channels);
-    frames as usize * bytes > wire_rules::DATA_MOST
+    usize::from(frames) * bytes > wire_rules::DATA_MOST
 }
 
 // The most frames that a packet of the type and the channels can have.
 pub fn largest(format: u8, channels: u16) -> Largest
     ensures { result ≡ largest_of format channels }
 {
-    if !Format::may_send(format) {
-        return Largest {
-            answer: Made::Form,
-            frames: 0,
-        };
-    }
-    if lists::is_outside(channels, 256) {
+    if !Format::may_send(format) || lists::is_outside(channels, 256) {
         return Largest {
             answer: Made::Form,
             frames: 0,

@@ -7,33 +7,20 @@ ghost use Rattle.cutter_rules.specs.Cut.{bad_number};
 pub(crate) fn from(n: u16, k: u32) -> usize
     ensures { result ≡ k * n }
 {
-    k as usize * n as usize
+    k as usize * usize::from(n)
 }
 
 // The frames of packet `k`: `n`, or what is left.
 pub(crate) fn count(frames: usize, n: u16, k: u32) -> u16
     ensures { result ≡ (schedule_of frames n).count k }
 {
-    let start = from(n, k);
-    if frames <= start {
-        return 0;
-    }
-    let left = frames - start;
-    if left < n as usize {
-        return left as u16;
-    }
-    n
+    let left = frames.saturating_sub(from(n, k));
+    left.min(usize::from(n)) as u16
 }
 
 // Whether there are no frames, more than 2^31 packets, or `k` is not below their number: products in place of a division.
 pub(crate) fn bad_number(frames: usize, n: u16, k: u32) -> bool
     ensures { result ≡ bad_number (schedule_of frames n) frames k }
 {
-    if frames == 0 {
-        return true;
-    }
-    if frames > from(n, 0x8000_0000) {
-        return true;
-    }
-    frames <= from(n, k)
+    frames == 0 || frames > from(n, 0x8000_0000) || frames <= from(n, k)
 }

@@ -2,7 +2,7 @@
 ghost use Rattle.std.specs.Prelude.{◌≡◌, ◌*◌, ◌^◌, ◌≤◌, ◌<◌, length};
 ghost use Rattle.lists.specs.Tables.{checked};
 ghost use Rattle.formats.specs.Formats.{size_at};
-ghost use Rattle.wire_rules.specs.Header.{header_size, header_of, no_header, data_size, foreign, mark_rows, bit_rows, field_rows, header_rows, header_alone};
+ghost use Rattle.wire_rules.specs.Header.{header_size, header_of, data_size, foreign, mark_rows, bit_rows, field_rows, header_rows, header_alone};
 ghost use Rattle.reader.specs.Unnamed.{unnamed};
 
 use answers::Answer;
@@ -76,8 +76,8 @@ pub fn numbers(d: &[u8]) -> Header
 {
     Header {
         rate: wire::bits::rate(lists::at(d, 4)),
-        frames: lists::at(d, 5) as u16 + 1,
-        channels: lists::at(d, 6) as u16 + 1,
+        frames: u16::from(lists::at(d, 5)) + 1,
+        channels: u16::from(lists::at(d, 6)) + 1,
         format: wire::bits::format(lists::at(d, 7)),
         name: [0u8; 16],
         counter: words::at4(d, 24),
@@ -89,28 +89,7 @@ pub(crate) fn fields(d: &[u8]) -> Header
     ensures { result ≡ header_of d.now }
 {
     let name = wire::name::kept(&d[8..24]);
-    let h = numbers(d);
-    Header {
-        rate: h.rate,
-        frames: h.frames,
-        channels: h.channels,
-        format: h.format,
-        name,
-        counter: h.counter,
-    }
-}
-
-pub fn none() -> Header
-    ensures { result ≡ no_header }
-{
-    Header {
-        rate: 0,
-        frames: 0,
-        channels: 0,
-        format: 0,
-        name: [0u8; 16],
-        counter: 0,
-    }
+    Header { name, ..numbers(d) }
 }
 
 // The header of a datagram, or of the 28 bytes alone: rows 3, 4 and 6 to 10.
@@ -125,7 +104,7 @@ pub fn alone(d: &[u8]) -> HeaderRead
         },
         Err(answer) => HeaderRead {
             answer,
-            header: none(),
+            header: Header::default(),
         },
     }
 }
@@ -134,7 +113,7 @@ pub fn alone(d: &[u8]) -> HeaderRead
 fn size_of(frames: u16, channels: u16, format: u8) -> usize
     ensures { (result ≡ frames * channels * size_at format) × (result < 2 ^ 40) }
 {
-    frames as usize * channels as usize * Format::size_at(format)
+    usize::from(frames) * usize::from(channels) * Format::size_at(format)
 }
 
 // The number of data bytes.
@@ -148,7 +127,7 @@ pub fn data_size(h: Header) -> usize
 pub(crate) fn size_in(d: &[u8]) -> usize
     ensures { (result ≡ data_size (header_of d.now)) × (result < 2 ^ 40) }
 {
-    let frames = lists::at(d, 5) as u16 + 1;
-    let channels = lists::at(d, 6) as u16 + 1;
+    let frames = u16::from(lists::at(d, 5)) + 1;
+    let channels = u16::from(lists::at(d, 6)) + 1;
     size_of(frames, channels, wire::bits::format(lists::at(d, 7)))
 }

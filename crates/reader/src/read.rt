@@ -1,23 +1,10 @@
 // Reading a datagram.
-ghost use Rattle.std.specs.Prelude.{◌≡◌, ◌+◌, length, ltb};
-ghost use Rattle.lists.specs.Tables.{checked, unlike};
-ghost use Rattle.wire_rules.specs.Header.{header_size, datagram_most, header_of, data_size};
+ghost use Rattle.std.specs.Prelude.{◌≡◌};
+ghost use Rattle.lists.specs.Tables.{checked};
 ghost use Rattle.wire_rules.specs.Read.{lead_rows, front_rows, length_rows, audio_rows, read_rows, read_of};
 
 use answers::Answer;
-use wire_rules::{HEADER, LONGEST, Read};
-
-fn is_long(d: &[u8]) -> bool
-    ensures { result ≡ ltb datagram_most (length d.now) }
-{
-    d.len() > LONGEST
-}
-
-fn is_inexact(d: &[u8]) -> bool
-    ensures { result ≡ unlike (length d.now) (header_size + data_size (header_of d.now)) }
-{
-    d.len() != HEADER + crate::header::size_in(d)
-}
+use wire_rules::{HEADER, Header, LONGEST, Read};
 
 // Rows 1 to 3.
 pub fn check_lead(d: &[u8]) -> Result<(), Answer>
@@ -26,7 +13,7 @@ pub fn check_lead(d: &[u8]) -> Result<(), Answer>
     if d.len() < HEADER {
         return Err(Answer::Short);
     }
-    if is_long(d) {
+    if d.len() > LONGEST {
         return Err(Answer::Long);
     }
     if crate::header::is_foreign(d) {
@@ -49,7 +36,7 @@ fn check_front(d: &[u8]) -> Result<(), Answer>
 fn check_length(d: &[u8]) -> Result<(), Answer>
     ensures { result ≡ checked (length_rows d.now) }
 {
-    if is_inexact(d) {
+    if d.len() != HEADER + crate::header::size_in(d) {
         return Err(Answer::Length);
     }
     Ok(())
@@ -85,7 +72,7 @@ pub fn read(d: &[u8]) -> Read
         }
         Err(answer) => Read {
             answer,
-            header: crate::header::none(),
+            header: Header::default(),
             size: 0,
         },
     }

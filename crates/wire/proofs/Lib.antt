@@ -1,3 +1,3 @@
 pub mod Shifting
-pub mod Measuring
 pub mod Halves
+pub mod Measuring

@@ -1,54 +1,38 @@
 // The name rule.
 ghost use Rattle.std.specs.Prelude.{◌≡◌, ◌%◌, ◌^◌, ◌≤◌, length};
 ghost use Rattle.wire_rules.specs.Names.{name_of, good_name, kept_name, same_bytes, same_name};
-ghost use Rattle.wire.specs.Measured.{characters_of, measured};
+ghost use Rattle.wire.specs.Measured.{before_zero, characters_of, measured};
 
 // How many characters the name has: the bytes before the first zero, or all.
 fn count(n: &[u8]) -> usize
-    ensures { (result ≡ length (name_of n.now)) × (result ≤ length n.now) }
+    ensures { result ≡ before_zero n.now }
 {
-    let mut i = 0;
-    while i < n.len() {
-        if n[i] == 0 {
-            return i;
-        }
-        i += 1;
-    }
-    i
+    n.iter().take_while(|&&b| b != 0).count()
 }
 
 // How many characters stand at the front: the bytes before the first that no name has, or all.
 fn characters(n: &[u8]) -> usize
     ensures { result ≡ characters_of n.now }
 {
-    let mut i = 0;
-    while i < n.len() {
-        if n[i] < 0x20 {
-            return i;
-        }
-        if n[i] > 0x7e {
-            return i;
-        }
-        i += 1;
-    }
-    i
+    n.iter().take_while(|&&b| b >= 0x20 && b <= 0x7e).count()
 }
 
-// How many characters a good name has, or 0: a name is good if it has one, and a zero or the end comes after them.
-pub fn measure(n: &[u8]) -> usize
+// How many characters a good name has: a name is good if it has one, and a zero or the end comes after them.
+pub fn measure(n: &[u8]) -> Option<usize>
     ensures { result ≡ measured n.now }
 {
     let k = characters(n);
-    if lists::at(n, k) == 0 {
-        return k;
+    if k > 0 && lists::at(n, k) == 0 {
+        Some(k)
+    } else {
+        None
     }
-    0
 }
 
 pub fn good(n: &[u8]) -> bool
     ensures { result ≡ good_name n.now }
 {
-    measure(n) != 0
+    measure(n).is_some()
 }
 
 // The lowest `k` bytes of eight.
@@ -94,30 +78,21 @@ pub fn kept(n: &[u8]) -> [u8; 16]
 pub fn same(m: &[u8], n: &[u8]) -> bool
     ensures { result ≡ same_name m.now n.now }
 {
-    let mut i = 0;
-    while i < m.len() {
-        if m[i] == 0 {
+    for (i, &b) in m.iter().enumerate() {
+        if b == 0 {
             return lists::at(n, i) == 0;
         }
-        if lists::at(n, i) != m[i] {
+        if lists::at(n, i) != b {
             return false;
         }
-        i += 1;
     }
-    lists::at(n, i) == 0
+    lists::at(n, m.len()) == 0
 }
 
-// Whether two fields hold the same bytes, eight at a time.
+// Whether two fields hold the same bytes.
 pub fn equal(m: &[u8], n: &[u8]) -> bool
     requires { (length m.now ≡ 16) × (length n.now ≡ 16) }
     ensures { result ≡ same_bytes m.now n.now }
 {
-    let mut i = 0;
-    while i < 16 {
-        if words::get8(m, i) != words::get8(n, i) {
-            return false;
-        }
-        i += 8;
-    }
-    true
+    words::get8(m, 0) == words::get8(n, 0) && words::get8(m, 8) == words::get8(n, 8)
 }

@@ -13,14 +13,14 @@ const RATES: [u32; 21] = [
 pub fn rate(index: u8) -> Rated
     ensures { result ≡ rate_of index }
 {
-    if index > 20 {
-        return Rated {
+    match RATES.get(usize::from(index)) {
+        Some(&hertz) => Rated {
+            answer: Answer::Accepted,
+            hertz,
+        },
+        None => Rated {
             answer: Answer::Rate,
             hertz: 0,
-        };
-    }
-    Rated {
-        answer: Answer::Accepted,
-        hertz: RATES[index as usize],
+        },
     }
 }

@@ -5,3 +5,4 @@ pub mod Reading
 pub mod Writing
 pub mod RoundTrip
 pub mod Spelling
+pub mod Zeros

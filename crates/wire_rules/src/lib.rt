@@ -12,7 +12,7 @@ pub const DATA_MOST: usize = 1436;
 pub const LONGEST: usize = 1464;
 
 // Frames and channels are counts, the rate and the type are their indexes.
-#[derive(Clone, Copy)]
+#[derive(Clone, Copy, Default)]
 pub struct Header {
     pub rate: u8,
     pub frames: u16,

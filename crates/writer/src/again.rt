@@ -1,5 +1,5 @@
 // Reading what was written, and writing what was read. Their contracts state the two round trips with no condition on the types.
-ghost use Rattle.std.specs.Prelude.{◌≡◌, ◌≤◌, length, drop};
+ghost use Rattle.std.specs.Prelude.{◌≡◌, drop};
 ghost use Rattle.wire_rules.specs.Header.{header_size};
 ghost use Rattle.wire_rules.specs.Read.{read_of};
 ghost use Rattle.wire_rules.specs.Write.{write_of, output_of};
@@ -24,16 +24,12 @@ pub fn read_written(d: &[u8], out: &mut [u8]) -> Written
     ensures repeated { Repeats d.now out.old → Repeated d.now out.old result out.new }
 {
     let a = reader::read::read(d);
-    let from = data_start(d);
-    crate::write::write(a.header, &d[from..], out)
+    crate::write::write(a.header, data(d), out)
 }
 
-// Where the data start: at byte 28, or at the end of what is shorter.
-fn data_start(d: &[u8]) -> usize
-    ensures { (drop result d.now ≡ drop header_size d.now) × (result ≤ length d.now) }
+// The data, from byte 28 on: none in what is shorter.
+fn data(d: &[u8]) -> &[u8]
+    ensures { result.now ≡ drop header_size d.now }
 {
-    if d.len() < HEADER {
-        return d.len();
-    }
-    HEADER
+    d.get(HEADER..).unwrap_or(&[])
 }

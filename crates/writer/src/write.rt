@@ -1,59 +1,53 @@
 // Writing one packet.
 ghost use Rattle.std.specs.Prelude.{◌≡◌, ◌+◌, ◌≤◌, length};
-ghost use Rattle.lists.specs.Tables.{first};
-ghost use Rattle.answers.specs.declared.Made.TheVariants.{Done};
 ghost use Rattle.lists.specs.Lists.{put};
 ghost use Rattle.wire_rules.specs.Header.{header_size};
 ghost use Rattle.wire_rules.specs.Names.{name_of};
-ghost use Rattle.wire.specs.Measured.{measured};
-ghost use Rattle.wire_rules.specs.Write.{lead_of, header_bytes, packet_of, GoodForm, bad_form, write_rows, write_of, output_of};
+ghost use Rattle.wire_rules.specs.Write.{lead_of, header_bytes, packet_of, GoodForm, write_rows, write_of, output_of};
+ghost use Rattle.writer.specs.Checks.{passing, bad_numbers, form_rows};
 
 use answers::Made;
 use formats::Format;
 use wire_rules::{DATA_MOST, HEADER, Header, Written};
 
-// The name comes measured, here and below: it is measured once for the checks and the writing.
-pub fn bad_form(named: usize, h: Header) -> bool
-    requires { named ≡ measured h.name }
-    ensures { result ≡ bad_form h }
+// Whether a packet can't have the numbers of a header, whatever its name.
+fn has_bad_numbers(h: Header) -> bool
+    ensures { result ≡ bad_numbers h }
 {
-    if h.rate > 20 {
-        return true;
-    }
-    if !Format::may_send(h.format) {
-        return true;
-    }
-    if lists::is_outside(h.frames, 256) {
-        return true;
-    }
-    if lists::is_outside(h.channels, 256) {
-        return true;
-    }
-    if named == 0 {
-        return true;
-    }
-    false
+    h.rate > 20
+        || !Format::may_send(h.format)
+        || lists::is_outside(h.frames, 256)
+        || lists::is_outside(h.channels, 256)
 }
 
-// By the header, the bytes of data given and the room for the packet. After row 22 what is given is small, so the sum fits.
-fn refusal(named: usize, h: Header, given: usize, room: usize) -> Made
-    requires { named ≡ measured h.name }
-    ensures { result ≡ first Done (write_rows h given room) }
+// Row 20. A good form has a good name, which is measured once for the checks and the writing: this gives how many characters it has.
+pub fn check_form(name: &[u8], h: Header) -> Result<usize, Made>
+    requires { name.now ≡ h.name }
+    ensures { result ≡ passing (length (name_of h.name)) (form_rows h) }
 {
-    if bad_form(named, h) {
-        return Made::Form;
+    if has_bad_numbers(h) {
+        return Err(Made::Form);
     }
+    wire::name::measure(name).ok_or(Made::Form)
+}
+
+// Rows 20 to 23, by the bytes of data given and the room for the packet. After row 22 what is given is small, so the sum fits.
+fn check(name: &[u8], h: Header, given: usize, room: usize) -> Result<usize, Made>
+    requires { name.now ≡ h.name }
+    ensures { result ≡ passing (length (name_of h.name)) (write_rows h given room) }
+{
+    let named = check_form(name, h)?;
     let size = reader::header::data_size(h);
     if size > DATA_MOST {
-        return Made::Big;
+        return Err(Made::Big);
     }
     if given != size {
-        return Made::Data;
+        return Err(Made::Data);
     }
     if room < HEADER + given {
-        return Made::Room;
+        return Err(Made::Room);
     }
-    Made::Done
+    Ok(named)
 }
 
 // The 28 bytes, of the raw bytes 4 to 7, a name of `named` characters and a counter.
@@ -103,17 +97,14 @@ pub fn write(h: Header, samples: &[u8], out: &mut [u8]) -> Written
     ensures output { out.new ≡ output_of h samples.now out.old }
 {
     let name = h.name;
-    let named = wire::name::measure(&name);
-    let a = refusal(named, h, samples.len(), out.len());
-    if answers::number_made(a) != 0 {
-        return Written {
-            answer: a,
-            length: 0,
-        };
-    }
-    emit(&name, named, h, samples, out);
-    Written {
-        answer: a,
-        length: HEADER + samples.len(),
+    match check(&name, h, samples.len(), out.len()) {
+        Ok(named) => {
+            emit(&name, named, h, samples, out);
+            Written {
+                answer: Made::Done,
+                length: HEADER + samples.len(),
+            }
+        }
+        Err(answer) => Written { answer, length: 0 },
     }
 }

@@ -1,5 +1,4 @@
 -- The header, and the samples after it.
-use Rattle.std.proofs.Common.{rules}
 use Rattle.writer.proofs.Pieces.{packed}
 use Rattle.cutter.proofs.cut.emit.Goals as goal
 

@@ -1,5 +1,5 @@
 -- By the product.
-use Rattle.std.proofs.Common.{◌≡◌, ℕ, ◌*◌, ◌/◌, ◌<◌, ◌≤◌, min, ltb, div-lt_iff_lt-mul, mul-le-mul, le-div_iff_mul-le, arith, rules}
+use Rattle.std.proofs.Common.{◌≡◌, ℕ, ◌*◌, ◌/◌, ◌<◌, ◌≤◌, min, ltb, div-lt_iff_lt-mul, mul-le-mul, le-div_iff_mul-le, arith}
 use Rattle.lists.proofs.Tables.{less_alike}
 use Rattle.formats.specs.Formats.{size_at}
 use Rattle.wire_rules.specs.Header.{data_most}
@@ -16,8 +16,8 @@ over_bytes format channels r e n l =
 
 pub overflow_mul-result : goal.overflow_mul-result
 overflow_mul-result c =
-    let product : c.args.frames * c.frame_bytes-bytes.result ≤ 256 * 262140 = mul-le-mul {n₂ = 256} {m₂ = 262140} c.requires.0 c.frame_bytes-bytes.ensures.1 in
+    let product : c.from.result * c.frame_bytes-bytes.result ≤ 256 * 262140 = mul-le-mul {n₂ = 256} {m₂ = 262140} (omega (arith, c.from.ensures, c.requires.0)) c.frame_bytes-bytes.ensures.1 in
     omega (arith, product)
 
 pub returns : goal.returns
-returns c = search over_bytes
+returns c = rw c.from.ensures (search over_bytes)

@@ -3,6 +3,7 @@ use mathlib.Core.Path.{sym, ◌∙◌}
 use Rattle.lists.proofs.Checked.{first_ok, first_err}
 use Rattle.answers.specs.declared.Answer.TheVariants.{Accepted}
 use Rattle.wire_rules.specs.Header.{header_rows, header_alone}
+use Rattle.wire_rules.proofs.Zeros.{zeros}
 use Rattle.reader.proofs.Rows.{refused_number}
 use Rattle.reader.proofs.header.alone.Goals as goal
 
@@ -15,4 +16,4 @@ unfolding header_alone
 returns-in-Err c =
     let rows = header_rows c.args.d.now in
     let e = sym c.in-Err.is ∙ c.check.ensures in
-    rw (first_err Accepted rows _ e, refused_number rows _ tt e, c.none.ensures)
+    rw (first_err Accepted rows _ e, refused_number rows _ tt e, zeros _ c.default.ensures)

@@ -1,12 +1,12 @@
--- The rest of both names decides. The measure is what is left of the first.
+-- The rest of both names decides.
 use mathlib.Core.Path.{◌≡◌, sym, ◌∙◌}
 use mathlib.Core.List.{List, [], ◌∷◌}
 use mathlib.Core.Bool.{false}
 use Prim.Native.Nat.{ℕ, suc, ◌+◌, ◌≤◌}
 use native.Mathlib.Numerals.{add-one}
+use native.Mathlib.Omega.{arith}
 use lib.Dec.{eqb}
 use lib.ListN.{length, get_or, drop, get_or-eq_default}
-use borrow.Author.Rules.{rules}
 use borrow.Author.Tests.{eq-eqb, ne_eqb, eqb-true, eqb-false}
 use Rattle.lists.proofs.Tables.{by_test}
 use Rattle.wire_rules.specs.Names.{name_of, same_bytes, same_name}
@@ -39,18 +39,16 @@ module _ (m n : List ℕ) (i y : ℕ) (p : same_name m n ≡ same_name (drop i m
       let r : get_or m i 0 ≡ get_or n i 0 = sym q ∙ e in
       rw (p, add-one, name_goes m i h, name_goes n i (λ z. h (r ∙ z)), eq-eqb (get_or m i 0) (get_or n i 0) r)
 
-pub returns-then-m-i-eq0 : goal.returns-then-m-i-eq0
-returns-then-m-i-eq0 c = search both_end
+pub returns-then-b-eq0 : goal.returns-then-b-eq0
+returns-then-b-eq0 c = both_end _ _ _ _ c.loop-i.invariant c.at.ensures c.if-b-eq0.true
 
-pub returns-then-at-m : goal.returns-then-at-m
-returns-then-at-m c = search differ
+pub returns-then-at-b : goal.returns-then-at-b
+returns-then-at-b c = differ _ _ _ _ c.loop-i.invariant c.at-in-loop-i.ensures c.if-b-eq0.false c.if-at-b.true
 
 pub loop-i-preserved : goal.loop-i-preserved
-loop-i-preserved c = (
-  search rules,
-  next _ _ _ _ c.loop-i.invariant.1 c.at-in-loop-i.ensures
-      c.if-m-i-eq0.false c.if-at-m.false,
-)
+loop-i-preserved c = next _ _ _ _ c.loop-i.invariant c.at-in-loop-i.ensures c.if-b-eq0.false c.if-at-b.false
 
 pub returns : goal.returns
-returns c = search over
+returns c =
+    let e : c.loop-i.i ≡ length c.args.m.now = omega arith in
+    over _ _ _ _ c.loop-i.invariant (rw e c.at-2.ensures) (omega arith)

@@ -1,12 +1,21 @@
--- The row, or none below the table's end.
-use Rattle.lists.proofs.Branches.{less_yes, less_no}
+-- The table's number, or none past its end.
+use Rattle.std.proofs.Common.{◌≡◌, ◌<◌, ◌≤◌, ℕ, get_or, arith, rules, le-ltb, lt-ltb}
+use Rattle.answers.specs.declared.Answer.TheVariants.{Accepted, Rate}
 use Rattle.wire_rules.specs.Rates.{rates, rate_of}
 use Rattle.wire.proofs.rate.rate.Goals as goal
 
-pub returns-then-index-gt20 : goal.returns-then-index-gt20
-unfolding rate_of rates
-returns-then-index-gt20 c = search less_yes
+module _ (i k : ℕ) (e : k ≡ i) where
+  found : (n : ℕ) → k < 21 → n ≡ get_or rates k 0 → record { answer = Accepted; hertz = n } ≡ rate_of i
+  unfolding rate_of
+  found n h p = rw (← e, le-ltb 20 k (omega arith), p)
 
-pub returns : goal.returns
-unfolding rate_of rates
-returns c = search less_no
+  past : 21 ≤ k → record { answer = Rate; hertz = 0 } ≡ rate_of i
+  unfolding rate_of
+  past h = rw (← e, lt-ltb 20 k h)
+
+pub returns-in-Some : goal.returns-in-Some
+unfolding rates
+returns-in-Some c = found c.args.index c.from.result c.from.ensures _ (search rules) (search rules)
+
+pub returns-in-None : goal.returns-in-None
+returns-in-None c = past c.args.index c.from.result c.from.ensures (search rules)

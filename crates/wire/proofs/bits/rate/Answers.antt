@@ -1,0 +1,6 @@
+-- A mask of the low bits is a remainder.
+use lib.Bits.{and_mask}
+use Rattle.wire.proofs.bits.rate.Goals as goal
+
+pub returns : goal.returns
+returns c = and_mask c.args.b 5

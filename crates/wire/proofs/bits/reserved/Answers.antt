@@ -1,0 +1,7 @@
+-- A mask of the low bits is a remainder.
+use Prim.Native.Nat.{◌/◌}
+use lib.Bits.{and_mask}
+use Rattle.wire.proofs.bits.reserved.Goals as goal
+
+pub returns : goal.returns
+returns c = and_mask (c.args.b / 8) 1
