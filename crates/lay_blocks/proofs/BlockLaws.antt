@@ -17,7 +17,7 @@ use Rattle.formats.specs.Formats.{size_of}
 use Rattle.sample_rules.specs.Bits.{slot_of}
 use Rattle.sample_rules.proofs.Bits.{slot_below}
 use Rattle.track_rules.specs.Records.{record_of, records_of, laid_of, frame_slot, packet_slot}
-use Rattle.records.proofs.Laying.{Laying}
+use Rattle.records.proofs.Laid.{Laying}
 use Rattle.lay_blocks.specs.Blocks.{sample_slot, slots_from, Slots, block_slot, block_frames}
 
 -- ---- filling: after i turns i samples are brought to slots

@@ -4,7 +4,7 @@ use native.Mathlib.Omega.{arith}
 use lib.ListN.{length}
 use borrow.Author.Rules.{rules}
 use Rattle.formats.specs.Formats.{signed16, size_of}
-use Rattle.records.proofs.Laying.{lay_start, frames_room, lay_two, lay_rest}
+use Rattle.records.proofs.Laid.{lay_start, frames_room, lay_two, lay_rest}
 use Rattle.lay16.proofs.few.Goals as goal
 
 pub loop-k-init : goal.loop-k-init

@@ -2,7 +2,7 @@
 use native.Mathlib.Omega.{arith}
 use borrow.Author.Rules.{rules}
 use Rattle.formats.specs.Formats.{signed16}
-use Rattle.records.proofs.Laying.{lay_first}
+use Rattle.records.proofs.Laid.{lay_first}
 use Rattle.lay16.proofs.one.Goals as goal
 
 pub overflow_mul-a : goal.overflow_mul-a

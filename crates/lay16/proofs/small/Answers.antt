@@ -7,7 +7,7 @@ use borrow.Author.Rules.{rules}
 use borrow.Rule.Slice.PartMut.{put_mid}
 use Rattle.lists.specs.Lists.{byte, put}
 use Rattle.track_rules.specs.Records.{record_of}
-use Rattle.records.proofs.Laying.{record_lent}
+use Rattle.records.proofs.Laid.{record_lent}
 use Rattle.lay16.proofs.small.Goals as goal
 
 stored : (track ys : List ℕ) (a c0 c1 x0 x1 : ℕ) → x0 ≡ c0 → x1 ≡ c1 → ys ≡ record_of (byte (x0 ∷ x1 ∷ 0 ∷ 0 ∷ 0 ∷ 0 ∷ 0 ∷ 0 ∷ []))

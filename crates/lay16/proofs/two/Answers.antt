@@ -11,7 +11,7 @@ use Rattle.lists.specs.Little.{little}
 use Rattle.formats.specs.Formats.{signed16}
 use Rattle.sample_rules.specs.Bits.{slot_of}
 use Rattle.track_rules.specs.Records.{record_of, laid_of, packet_slot}
-use Rattle.records.proofs.Laying.{lay_second}
+use Rattle.records.proofs.Laid.{lay_second}
 use Rattle.lay16.proofs.Rows.{in_word, one_channel, two_channels}
 use Rattle.lay16.proofs.two.Goals as goal
 

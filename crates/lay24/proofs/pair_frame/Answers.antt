@@ -13,7 +13,7 @@ use Rattle.lists.proofs.Little.{little_below, little_joined}
 use Rattle.formats.specs.Formats.{signed24}
 use Rattle.track_rules.specs.Records.{record_of, frame_slot}
 use Rattle.records.proofs.Packing.{packed}
-use Rattle.records.proofs.Laying.{heard, silent, framed}
+use Rattle.records.proofs.Laid.{heard, silent, framed}
 use Rattle.lay24.proofs.Copying.{same_slot}
 use Rattle.lay24.proofs.pair_frame.Goals as goal
 

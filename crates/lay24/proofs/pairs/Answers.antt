@@ -3,7 +3,7 @@ use Prim.Native.Nat.{◌+◌, ◌*◌, ◌≤◌}
 use native.Mathlib.Omega.{arith}
 use lib.ListN.{length}
 use Rattle.formats.specs.Formats.{signed24}
-use Rattle.records.proofs.Laying.{lay_start, frame_room, packet_next, lay_end}
+use Rattle.records.proofs.Laid.{lay_start, frame_room, packet_next, lay_end}
 use Rattle.lay24.proofs.pairs.Goals as goal
 
 pub loop-k-init : goal.loop-k-init

@@ -1,6 +1,6 @@
 -- A sample, or 0 past the channels.
 use borrow.Author.Rules.{rules}
-use Rattle.records.proofs.Laying.{heard, silent}
+use Rattle.records.proofs.Laid.{heard, silent}
 use Rattle.lay24.proofs.slot.Statement.{statement}
 use Rattle.lay24.proofs.slot.Tie as tie
 

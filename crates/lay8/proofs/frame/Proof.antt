@@ -1,6 +1,6 @@
 -- Eight slots, as a record.
 use borrow.Author.Rules.{rules}
-use Rattle.records.proofs.Laying.{framed}
+use Rattle.records.proofs.Laid.{framed}
 use Rattle.lay8.proofs.frame.Statement.{statement}
 use Rattle.lay8.proofs.frame.Tie as tie
 

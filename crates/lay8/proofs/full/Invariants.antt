@@ -2,7 +2,7 @@
 use Prim.Native.Nat.{◌-◌}
 use Rattle.formats.specs.Formats.{unsigned8}
 use Rattle.track_rules.specs.Records.{packet_slot}
-use Rattle.records.proofs.Laying.{Laying}
+use Rattle.records.proofs.Laid.{Laying}
 use Rattle.lay8.proofs.full.Given as goal
 
 abbrev pub invariant-loop-k : goal.invariant-loop-k

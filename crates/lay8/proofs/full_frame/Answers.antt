@@ -12,7 +12,7 @@ use Rattle.lists.proofs.Little.{little_one, little_byte}
 use Rattle.formats.specs.Formats.{unsigned8}
 use Rattle.sample_rules.specs.Bits.{slot_of}
 use Rattle.track_rules.specs.Records.{record_of, frame_slot}
-use Rattle.records.proofs.Laying.{heard, framed}
+use Rattle.records.proofs.Laid.{heard, framed}
 use Rattle.words.proofs.Flipped.{flipped_byte}
 use Rattle.lay8.proofs.full_frame.Goals as goal
 

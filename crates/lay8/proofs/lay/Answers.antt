@@ -1,6 +1,6 @@
 -- By the count of channels.
 use borrow.Author.Rules.{rules}
-use Rattle.records.proofs.Laying.{for_count, room_for}
+use Rattle.records.proofs.Laid.{for_count, room_for}
 use Rattle.lay8.proofs.lay.Goals as goal
 
 pub some-requires : goal.some-requires

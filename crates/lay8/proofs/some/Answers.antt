@@ -4,7 +4,7 @@ use native.Mathlib.Omega.{arith}
 use lib.ListN.{length}
 use borrow.Author.Rules.{rules}
 use Rattle.formats.specs.Formats.{unsigned8, size_of}
-use Rattle.records.proofs.Laying.{lay_start, frame_room, lay_more, lay_end}
+use Rattle.records.proofs.Laid.{lay_start, frame_room, lay_more, lay_end}
 use Rattle.lay8.proofs.some.Goals as goal
 
 pub loop-k-init : goal.loop-k-init

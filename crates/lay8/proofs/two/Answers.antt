@@ -2,7 +2,7 @@
 use native.Mathlib.Omega.{arith}
 use borrow.Author.Rules.{rules}
 use Rattle.formats.specs.Formats.{unsigned8}
-use Rattle.records.proofs.Laying.{lay_both}
+use Rattle.records.proofs.Laid.{lay_both}
 use Rattle.lay8.proofs.two.Goals as goal
 
 pub one-requires : goal.one-requires

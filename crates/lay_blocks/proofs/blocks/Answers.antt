@@ -8,7 +8,7 @@ use borrow.Author.Rules.{rules}
 use Rattle.formats.specs.declared.Format.{Format}
 use Rattle.formats.specs.Formats.{size_of}
 use Rattle.formats.proofs.Types.{size_le}
-use Rattle.records.proofs.Laying.{lay_start, lay_end}
+use Rattle.records.proofs.Laid.{lay_start, lay_end}
 use Rattle.lay_blocks.specs.Blocks.{Slots}
 use Rattle.lay_blocks.proofs.BlockLaws.{zeros, all_slots, as_long, blocks_next, some, no_more, few, data_room, track_room}
 use Rattle.lay_blocks.proofs.blocks.Goals as goal

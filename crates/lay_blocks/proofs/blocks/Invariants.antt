@@ -3,7 +3,7 @@ use mathlib.Core.Path.{◌≡◌}
 use Prim.Native.Nat.{◌-◌}
 use lib.ListN.{length}
 use Rattle.track_rules.specs.Records.{packet_slot}
-use Rattle.records.proofs.Laying.{Laying}
+use Rattle.records.proofs.Laid.{Laying}
 use Rattle.lay_blocks.specs.Blocks.{Slots}
 use Rattle.lay_blocks.proofs.blocks.Given as goal
 

@@ -2,7 +2,7 @@
 use native.Mathlib.Omega.{arith}
 use lib.Dec.{lit≤}
 use borrow.Author.Rules.{rules}
-use Rattle.records.proofs.Laying.{for_count, room_for}
+use Rattle.records.proofs.Laid.{for_count, room_for}
 use Rattle.lay_blocks.proofs.lay.Goals as goal
 
 pub blocks-requires : goal.blocks-requires

@@ -3,7 +3,7 @@ use Prim.Native.Nat.{◌+◌, ◌*◌, ◌≤◌}
 use native.Mathlib.Omega.{arith}
 use borrow.Author.Rules.{rules}
 use Rattle.lists.proofs.Lists.{within}
-use Rattle.records.proofs.Laying.{lay_start, lay_next, lay_end}
+use Rattle.records.proofs.Laid.{lay_start, lay_next, lay_end}
 use Rattle.lay_blocks.proofs.lay_all.Goals as goal
 
 pub loop-k-init : goal.loop-k-init

@@ -1,7 +1,7 @@
 -- A record a turn, each in the part of the track that it is lent.
 use Prim.Native.Nat.{◌-◌}
 use Rattle.lay_blocks.specs.Blocks.{block_frames}
-use Rattle.records.proofs.Laying.{Laying}
+use Rattle.records.proofs.Laid.{Laying}
 use Rattle.lay_blocks.proofs.lay_all.Given as goal
 
 abbrev pub invariant-loop-k : goal.invariant-loop-k

@@ -25,6 +25,11 @@ module _ (f : Format) (d : List ℕ) (from channels : ℕ) where
   unfolding frame_slot
   heard c u s r h p q e = e ∙ q ∙ ap (slot_of f) p ∙ less_yes _ _ _ _ h
 
+  -- by sizes that are the type's
+  pub sampled : (size n c u s r : ℕ) → c < channels → u ≡ little size d (from + c * n) → s ≡ slot_of f u → r ≡ s → size ≡ size_of f → n ≡ size
+      → r ≡ frame_slot f d from channels c
+  sampled size n c u s r h p q e z y = heard c u s r h (p ∙ rw (y, z)) q e
+
   pub silent : (c : ℕ) → channels ≤ c → 0 ≡ frame_slot f d from channels c
   unfolding frame_slot
   silent c h = less_no _ _ _ _ _ h refl
@@ -53,35 +58,37 @@ module _ (g : ℕ → ℕ → ℕ) (frames : ℕ) (track₀ : List ℕ) (place :
     unfolding laid_of records_of
     lay_end h = end 24 _ frames track₀ (place * 24) track k l h
 
--- ---- the loop by a function that lays m frames, from where they start in the packet
+-- ---- the loop by a function that lays m frames, from where they start in the packet; the size of a sample is the type's
 
 module _ (f : Format) (d : List ℕ) (from frames channels : ℕ) (track₀ : List ℕ) (place : ℕ) (track : List ℕ) (k : ℕ)
     (l : Laying (packet_slot f d from channels) frames track₀ place track k) where
-  pub lay_more : (m : ℕ) (out : List ℕ) → k + m ≤ frames → out ≡ laid_of track (place + k) m (packet_slot f d (from + k * (channels * size_of f)) channels)
-      → Laying (packet_slot f d from channels) frames track₀ place out (k + m)
+  pub lay_more : (m size : ℕ) (out : List ℕ) → k + m ≤ frames → out ≡ laid_of track (place + k) m (packet_slot f d (from + k * (channels * size)) channels)
+      → size ≡ size_of f → Laying (packet_slot f d from channels) frames track₀ place out (k + m)
   unfolding laid_of records_of packet_slot
-  lay_more m out h p =
+  lay_more m size out h p z =
       more 24 _ frames track₀ (place * 24) track k l m ((place + k) * 24) _ out h (add-mul place k 24)
       (up_to_same m _ _ (λ i g.
       let e : from + k * (channels * size_of f) + i * (channels * size_of f) ≡ from + (k + i) * (channels * size_of f)
       = omega (arith, add-mul k i (channels * size_of f)) in ap (λ (x : ℕ). record_of (frame_slot f d x channels)) e))
-      p
+      (rw z at p)
 
 -- two frames a turn, and the one that may be left
 module _ (f : Format) (d : List ℕ) (from frames channels : ℕ) (track₀ : List ℕ) (place : ℕ) (track : List ℕ) (k : ℕ)
     (l : Laying (packet_slot f d from channels) frames track₀ place track (k * 2)) where
-  pub lay_two : (out : List ℕ) → k < frames / 2 → out ≡ laid_of track (place + k * 2) 2 (packet_slot f d (from + k * 2 * (channels * size_of f)) channels)
+  pub lay_two : (size : ℕ) (out : List ℕ) → k < frames / 2
+      → out ≡ laid_of track (place + k * 2) 2 (packet_slot f d (from + k * 2 * (channels * size)) channels) → size ≡ size_of f
       → Laying (packet_slot f d from channels) frames track₀ place out ((k + 1) * 2)
-  lay_two out h p =
+  lay_two size out h p z =
       let e : (k + 1) * 2 ≡ k * 2 + 2 = omega arith in
-      rw e (lay_more f d from frames channels track₀ place track (k * 2) l 2 out (omega arith) p)
+      rw e (lay_more f d from frames channels track₀ place track (k * 2) l 2 size out (omega arith) p z)
 
-  pub lay_rest : (out : List ℕ) → frames / 2 ≤ k
-      → out ≡ laid_of track (place + frames / 2 * 2) (frames % 2) (packet_slot f d (from + frames / 2 * 2 * (channels * size_of f)) channels)
-      → out ≡ laid_of track₀ place frames (packet_slot f d from channels)
-  lay_rest out h p =
-      let z : frames / 2 ≡ k = omega (arith, l.turns) in
-      lay_end _ frames track₀ place out _ (lay_more f d from frames channels track₀ place track (k * 2) l (frames % 2) out (omega arith) (rw (← z) p)) (omega arith)
+  pub lay_rest : (size : ℕ) (out : List ℕ) → frames / 2 ≤ k
+      → out ≡ laid_of track (place + frames / 2 * 2) (frames % 2) (packet_slot f d (from + frames / 2 * 2 * (channels * size)) channels)
+      → size ≡ size_of f → out ≡ laid_of track₀ place frames (packet_slot f d from channels)
+  lay_rest size out h p z =
+      let e : frames / 2 ≡ k = omega (arith, l.turns) in
+      lay_end _ frames track₀ place out _
+      (lay_more f d from frames channels track₀ place track (k * 2) l (frames % 2) size out (omega arith) (rw (← e) p) z) (omega arith)
 
 -- a record, in the part of the track that it is lent
 pub record_lent : (track ys : List ℕ) (a : ℕ) (slots : ℕ → ℕ) → ys ≡ record_of slots → put_mid a (a + 24 - a) track ys ≡ put track a (record_of slots)
@@ -105,13 +112,13 @@ lay_second track place g out last h p q =
     q ∙ rw (p, e) (put_more track (record_of (g 0)) (record_of (g 1)) (place * 24) h)
 
 -- and so are two calls that lay one each
-pub lay_both : (f : Format) (d : List ℕ) (from channels : ℕ) (track : List ℕ) (place : ℕ) (out last : List ℕ) → place * 24 ≤ length track
+pub lay_both : (f : Format) (d : List ℕ) (from channels size : ℕ) (track : List ℕ) (place : ℕ) (out last : List ℕ) → place * 24 ≤ length track
     → out ≡ laid_of track place 1 (packet_slot f d from channels)
-    → last ≡ laid_of out (place + 1) 1 (packet_slot f d (from + channels * size_of f) channels)
+    → last ≡ laid_of out (place + 1) 1 (packet_slot f d (from + channels * size) channels) → size ≡ size_of f
     → last ≡ laid_of track place 2 (packet_slot f d from channels)
 unfolding laid_of records_of up_to packet_slot
-lay_both f d from channels track place out last h p q =
-    let e : from + channels * size_of f + 0 * (channels * size_of f) ≡ from + 1 * (channels * size_of f) = rw (zero-mul, one-mul) (add-zero _) in
+lay_both f d from channels size track place out last h p q z =
+    let e : from + channels * size + 0 * (channels * size_of f) ≡ from + 1 * (channels * size_of f) = rw (z, zero-mul, one-mul) (add-zero _) in
     lay_second track place (packet_slot f d from channels) out last h p
     (q ∙ ap (λ (x : ℕ). put out ((place + 1) * 24) (record_of (frame_slot f d x channels))) e)
 
