@@ -10,29 +10,8 @@ use Rattle.records.proofs.Packing.{half_length}
 use Rattle.lay16.proofs.Rows.{all_laid}
 use Rattle.lay16.proofs.full.Goals as goal
 
-pub overflow_mul-count : goal.overflow_mul-count
-overflow_mul-count c = omega arith
-
 pub loop-k-init : goal.loop-k-init
 loop-k-init c = start 12 _ (λ i. half_length _) _ _ _ (omega arith)
-
-pub overflow_mul-a : goal.overflow_mul-a
-overflow_mul-a c = omega arith
-
-pub overflow_add-a : goal.overflow_add-a
-overflow_add-a c = omega arith
-
-pub overflow_mul-a-in-loop-k : goal.overflow_mul-a-in-loop-k
-overflow_mul-a-in-loop-k c = omega arith
-
-pub overflow_add-e : goal.overflow_add-e
-overflow_add-e c = omega arith
-
-pub overflow_mul-k : goal.overflow_mul-k
-overflow_mul-k c = omega arith
-
-pub overflow_add-from : goal.overflow_add-from
-overflow_add-from c = omega arith
 
 pub slice_bounds-half-end : goal.slice_bounds-half-end
 slice_bounds-half-end c =

@@ -14,24 +14,5 @@ stored : (track ys : List ℕ) (a c0 c1 x0 x1 : ℕ) → x0 ≡ c0 → x1 ≡ c1
     → put_mid a (a + 24 - a) track ys ≡ put track a (record_of (byte (c0 ∷ c1 ∷ 0 ∷ 0 ∷ 0 ∷ 0 ∷ 0 ∷ 0 ∷ [])))
 stored track ys a c0 c1 x0 x1 e f p = record_lent track ys a _ p ∙ rw (e, f)
 
-pub overflow_mul-a : goal.overflow_mul-a
-overflow_mul-a c = omega arith
-
-pub overflow_add-e : goal.overflow_add-e
-overflow_add-e c = omega arith
-
-pub put_record-requires : goal.put_record-requires
-put_record-requires c = (
-  omega (arith, c.put_record-arg-1.given.2),
-  omega (arith, c.wider-v.ensures),
-  omega (arith, c.wider.ensures),
-  search rules,
-  search rules,
-  search rules,
-  search rules,
-  search rules,
-  search rules,
-)
-
 pub returns : goal.returns
 returns c = search stored

@@ -39,18 +39,6 @@ module _ (d : List ℕ) (below : (i : ℕ) → byte d i < 256) (from : ℕ) (tra
       ∙ ap (put out ((place + 1) * 24))
       (two_channels d from 1 r2 r3 (in_word d from below 4 0 2 w r2 2 f refl e2) (in_word d from below 4 2 0 w r3 3 f refl e3)))
 
-pub get4-v-requires : goal.get4-v-requires
-get4-v-requires c = omega arith
-
-pub small-requires : goal.small-requires
-small-requires c = (omega arith, search rules, search rules)
-
-pub overflow_add-place : goal.overflow_add-place
-overflow_add-place c = omega arith
-
-pub small-requires-then-channels-eq1 : goal.small-requires-then-channels-eq1
-small-requires-then-channels-eq1 c = (omega arith, search rules, search rules)
-
 pub returns-then-channels-eq1 : goal.returns-then-channels-eq1
 returns-then-channels-eq1 c = let y = c in
     let x = y in
@@ -61,21 +49,6 @@ returns-then-channels-eq1 c = let y = c in
     rw z
     (ones a.d.now (λ i. (g.type_inv.d i).fits) a.from a.track.now a.place (omega arith) _
     (rw (add-zero a.from) g.get4-v.ensures) _ _ x.part.ensures.0 y.part-then-channels-eq1.ensures.0 _ _ x.small.ensures y.small-then-channels-eq1.ensures)
-
-pub overflow_add-from : goal.overflow_add-from
-overflow_add-from c = omega arith
-
-pub get4-w-requires : goal.get4-w-requires
-get4-w-requires c = omega arith
-
-pub small-requires-2 : goal.small-requires-2
-small-requires-2 c = (omega arith, search rules, search rules)
-
-pub overflow_add-place-2 : goal.overflow_add-place-2
-overflow_add-place-2 c = omega arith
-
-pub small-requires-3 : goal.small-requires-3
-small-requires-3 c = (omega arith, search rules, search rules)
 
 pub returns : goal.returns
 returns c = let y = c in
