@@ -27,9 +27,10 @@ module _ (f : Format) (d : List ℕ) (from n : ℕ) (block₀ : List ℕ) where
   fill_start m = start 1 (sample_slot f d from) (λ i. refl) n block₀ 0 (omega arith)
 
   module _ (block : List ℕ) (i : ℕ) (l : Pieces 1 (sample_slot f d from) n block₀ 0 block i) where
-    pub fill_next : (a u v : ℕ) → i < n → a ≡ from + i * size_of f → u ≡ little (size_of f) d a → v ≡ slot_of f u
+    -- by sizes that are the type's
+    pub fill_next : (size m u v : ℕ) → i < n → u ≡ little size d (from + i * m) → v ≡ slot_of f u → size ≡ size_of f → m ≡ size
         → Pieces 1 (sample_slot f d from) n block₀ 0 (set block i v) (i + 1)
-    fill_next a u v h e p q = next_set (sample_slot f d from) n block₀ block i l v h (rw (q, p, e))
+    fill_next size m u v h p q z y = next_set (sample_slot f d from) n block₀ block i l v h (rw (q, p, y, z))
 
     pub fill_end : n ≤ i → block ≡ put block₀ 0 (slots_from f d from n)
     unfolding slots_from
