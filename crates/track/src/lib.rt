@@ -2,11 +2,12 @@
 #![tactic(auto)]
 
 ghost use Rattle.std.specs.Prelude.{◌≡◌, ◌+◌, ◌*◌, ◌≤◌, length};
-ghost use Rattle.formats.specs.declared.Format.TheVariants.{Whole, Other};
-ghost use Rattle.formats.specs.Formats.{whole_size, size_of};
+ghost use Rattle.formats.specs.declared.Format.TheVariants.{Whole};
+ghost use Rattle.formats.specs.Formats.{whole_size};
 ghost use Rattle.track_rules.specs.Records.{record_bytes, records_held, cleared_of, laid_of, packet_slot};
 
-use formats::{Format, Integer};
+use formats::Integer;
+use samples::slots::Signed32;
 use track_rules::RECORD;
 
 // How many whole records the track holds.
@@ -16,20 +17,16 @@ pub fn held(track: &[u8]) -> usize
     track.len() / RECORD
 }
 
-// Clears all whole records. Byte by byte, which becomes one call that clears memory.
+// Clears all whole records, by one call that clears memory.
 pub fn clear(track: &mut [u8])
     ensures { track.new ≡ cleared_of track.old }
 {
     let end = track.len() / RECORD * RECORD;
-    let mut i = 0;
-    while i < end {
-        track[i] = 0;
-        i += 1;
-    }
+    track[..end].fill(0);
 }
 
-// Whole numbers, each by its own loops.
-fn lay_whole(
+// Lays frames of a packet's data, which start at byte `from`, at a place of the track: each type by its own loops.
+pub fn lay(
     f: Integer,
     d: &[u8],
     from: usize,
@@ -45,34 +42,8 @@ fn lay_whole(
         Integer::Unsigned8 => lay8::lay(d, from, frames, channels, track, place),
         Integer::Signed16 => lay16::lay(d, from, frames, channels, track, place),
         Integer::Signed24 => lay24::lay(d, from, frames, channels, track, place),
-        Integer::Signed32 => lay_blocks::lay(
-            Format::Whole(Integer::Signed32),
-            d,
-            from,
-            frames,
-            channels,
-            track,
-            place,
-        ),
-    }
-}
-
-// Lays frames of a packet's data, which start at byte `from`, at a place of the track.
-pub fn lay(
-    f: Format,
-    d: &[u8],
-    from: usize,
-    frames: usize,
-    channels: usize,
-    track: &mut [u8],
-    place: usize,
-)
-    requires fact { f ≡ Other → ⊥ }
-    requires channels_bound { (channels ≤ 8) × (from + frames * (channels * size_of f) ≤ length d.now) × (place * record_bytes + frames * record_bytes ≤ length track.old) }
-    ensures { track.new ≡ laid_of track.old place frames (packet_slot f d.now from channels) }
-{
-    match f {
-        Format::Whole(w) => lay_whole(w, d, from, frames, channels, track, place),
-        Format::Other => {}
+        Integer::Signed32 => {
+            lay_blocks::lay::<Signed32>(d, from, frames, channels, track, place)
+        }
     }
 }
