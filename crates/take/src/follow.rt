@@ -45,8 +45,8 @@ pub fn lay(format: u8, frames: u16, channels: u16, d: &[u8], place: usize, track
         f,
         d,
         HEADER,
-        usize::from(frames),
-        usize::from(channels),
+        frames as usize,
+        channels as usize,
         track,
         place,
     );
