@@ -8,7 +8,7 @@ use lib.ListN.{length}
 use borrow.Rule.Slice.PartMut.{put_mid}
 use Rattle.lists.specs.Lists.{byte, put, up_to}
 use Rattle.lists.specs.Little.{little}
-use Rattle.lists.proofs.Lists.{within, lent, put_more, up_to_same}
+use Rattle.lists.proofs.Lists.{lent, put_more, up_to_same}
 use Rattle.lists.proofs.Loops.{Pieces, start, more, next, end}
 use Rattle.lists.proofs.Branches.{less_yes, less_no}
 use Rattle.formats.specs.declared.Format.{Format}
@@ -130,19 +130,11 @@ pub packet_next : (f : Format) (d : List ℕ) (from frames channels : ℕ) (trac
 unfolding packet_slot
 packet_next f d from frames channels track₀ place = lay_next (packet_slot f d from channels) frames track₀ place
 
--- in a turn the frame that is read is there
-pub frame_room : (from step frames k held : ℕ) → k < frames → from + frames * step ≤ held → from + k * step + step ≤ held
-frame_room from step frames k held h m = omega (arith, within k frames step h)
-
--- and so are those of m frames
+-- the data of m frames from the k-th on are there
 pub frames_room : (from step frames k m held : ℕ) → k + m ≤ frames → from + frames * step ≤ held → from + k * step + m * step ≤ held
 frames_room from step frames k m held h e = omega (arith, mul-le-mul_right step h, add-mul k m step)
 
 -- ---- a call for a count that is a literal, where the channels are that many
-
-pub for_count : (f : Format) (d : List ℕ) (from channels n frames : ℕ) (track₀ out : List ℕ) (place : ℕ) → channels ≡ n
-    → out ≡ laid_of track₀ place frames (packet_slot f d from n) → out ≡ laid_of track₀ place frames (packet_slot f d from channels)
-for_count f d from channels n frames track₀ out place e p = rw e p
 
 pub room_for : (from frames channels n s l : ℕ) → channels ≡ n → from + frames * (channels * s) ≤ l → from + frames * (n * s) ≤ l
 room_for from frames channels n s l e h = rw (← e) h

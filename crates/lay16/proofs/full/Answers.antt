@@ -15,22 +15,14 @@ loop-k-init c = start 12 _ (λ i. half_length _) _ _ _ (omega arith)
 
 pub slice_bounds-half-end : goal.slice_bounds-half-end
 slice_bounds-half-end c =
-    let p = c.args.place in let at : let k = c.loop-k.k in (p * 2 + k) * 12 ≡ p * 24 + k * 12 = omega arith in
-    let has : (c.args.place * 2 + c.loop-k.k) * 12 + 12 ≤ length c.loop-k.track = there 12 _ _ _ _ _ _ c.loop-k.invariant _ c.loop-k-test.true (at) in
+    let at : (c.args.place * 2 + c.loop-k.k) * 12 ≡ c.args.place * 24 + c.loop-k.k * 12 = omega arith in
+    let has : (c.args.place * 2 + c.loop-k.k) * 12 + 12 ≤ length c.loop-k.track = there 12 _ _ _ _ _ _ c.loop-k.invariant _ c.loop-k-test.true at in
     omega (arith, has)
-
-pub half-requires : goal.half-requires
-half-requires c =
-    let p = c.args.place in let at : let k = c.loop-k.k in (p * 2 + k) * 12 ≡ p * 24 + k * 12 = omega arith in
-    let has : (c.args.place * 2 + c.loop-k.k) * 12 + 12 ≤ length c.loop-k.track = there 12 _ _ _ _ _ _ c.loop-k.invariant _ c.loop-k-test.true (at) in
-    (omega arith, omega (arith, has, c.half-arg-1.given.2))
 
 pub loop-k-preserved : goal.loop-k-preserved
 loop-k-preserved c =
-    let p = c.args.place in let at : let k = c.loop-k.k in (p * 2 + k) * 12 ≡ p * 24 + k * 12 = omega arith in
-    let y = c in
-    let i = y in
-    next 12 _ _ _ _ _ _ i.loop-k.invariant _ _ i.loop-k-test.true (at) y.half.ensures
+    let at : (c.args.place * 2 + c.loop-k.k) * 12 ≡ c.args.place * 24 + c.loop-k.k * 12 = omega arith in
+    next 12 _ _ _ _ _ _ c.loop-k.invariant _ _ c.loop-k-test.true at c.half.ensures
 
 pub returns : goal.returns
 unfolding laid_of

@@ -42,5 +42,4 @@ module _ (d : List ℕ) (below : (i : ℕ) → byte d i < 256) (from : ℕ) wher
       (silent signed24 d from 2 4 (lit≤ tt)) (silent signed24 d from 2 5 (lit≤ tt)) (silent signed24 d from 2 6 (lit≤ tt)) (silent signed24 d from 2 7 (lit≤ tt))
 
 pub returns : goal.returns
-returns c = let o = c in
-    search (paired o.args.d.now (λ i. (o.type_inv.d i).fits))
+returns c = search (paired c.args.d.now (λ i. (c.type_inv.d i).fits))

@@ -45,5 +45,4 @@ module _ (d : List ℕ) (below : (i : ℕ) → byte d i < 256) (from : ℕ) wher
       (one 6 48 r6 (lit< tt) refl refl e6) (one 7 56 r7 (lit< tt) refl refl e7)
 
 pub returns : goal.returns
-returns c = let o = c in
-    search (word_framed o.args.d.now (λ i. (o.type_inv.d i).fits))
+returns c = search (word_framed c.args.d.now (λ i. (c.type_inv.d i).fits))
