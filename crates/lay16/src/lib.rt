@@ -5,7 +5,8 @@ ghost use Rattle.std.specs.Prelude.{◌≡◌, ◌∷◌, [], ◌+◌, ◌*◌, 
 ghost use Rattle.lists.specs.Lists.{byte, put};
 ghost use Rattle.formats.specs.Formats.{signed16, size_of};
 ghost use Rattle.sample_rules.specs.Bits.{slot_of};
-ghost use Rattle.track_rules.specs.Records.{record_bytes, slot_bytes, record_of, laid_of, frame_slot, packet_slot};
+ghost use Rattle.track_rules.specs.Records.{record_bytes, slot_bytes, record_of, laid_of, packet_slot};
+ghost use Rattle.records.specs.Room.{HasRoom};
 ghost use Rattle.records.specs.Frames.{half_of};
 ghost use Rattle.lay16.specs.Rows.{in_row};
 
@@ -47,7 +48,7 @@ fn small(track: &mut [u8], place: usize, c0: u32, c1: u32)
 
 // The next two frames of one or two channels, read as words before any is stored.
 fn two(d: &[u8], from: usize, channels: usize, track: &mut [u8], place: usize)
-    requires { (1 ≤ channels) × (channels ≤ 2) × (from + 2 * (channels * size_of signed16) ≤ length d.now) × (place * record_bytes + 2 * record_bytes ≤ length track.old) }
+    requires { (1 ≤ channels) × (channels ≤ 2) × HasRoom signed16 d.now from 2 channels track.old place }
     ensures { track.new ≡ laid_of track.old place 2 (packet_slot signed16 d.now from channels) }
 {
     let v = words::get4(d, from);
@@ -63,7 +64,7 @@ fn two(d: &[u8], from: usize, channels: usize, track: &mut [u8], place: usize)
 
 // Two frames a turn, and the one that may be left.
 fn few(d: &[u8], from: usize, frames: usize, channels: usize, track: &mut [u8], place: usize)
-    requires { (1 ≤ channels) × (channels ≤ 2) × (from + frames * (channels * size_of signed16) ≤ length d.now) × (place * record_bytes + frames * record_bytes ≤ length track.old) }
+    requires { (1 ≤ channels) × (channels ≤ 2) × HasRoom signed16 d.now from frames channels track.old place }
     ensures { track.new ≡ laid_of track.old place frames (packet_slot signed16 d.now from channels) }
 {
     let step = channels * Signed16::SIZE;
@@ -93,7 +94,7 @@ fn half(d: &[u8], from: usize, out: &mut [u8])
 
 // Eight channels: every slot has a sample, so slots follow each other as samples do.
 fn full(d: &[u8], from: usize, frames: usize, track: &mut [u8], place: usize)
-    requires { (from + frames * (8 * size_of signed16) ≤ length d.now) × (place * record_bytes + frames * record_bytes ≤ length track.old) }
+    requires { HasRoom signed16 d.now from frames 8 track.old place }
     ensures { track.new ≡ laid_of track.old place frames (packet_slot signed16 d.now from 8) }
 {
     for k in 0..frames * 2 {
@@ -104,7 +105,7 @@ fn full(d: &[u8], from: usize, frames: usize, track: &mut [u8], place: usize)
 }
 
 pub fn lay(d: &[u8], from: usize, frames: usize, channels: usize, track: &mut [u8], place: usize)
-    requires { (channels ≤ 8) × (from + frames * (channels * size_of signed16) ≤ length d.now) × (place * record_bytes + frames * record_bytes ≤ length track.old) }
+    requires { HasRoom signed16 d.now from frames channels track.old place }
     ensures { track.new ≡ laid_of track.old place frames (packet_slot signed16 d.now from channels) }
 {
     match channels {

@@ -4,6 +4,7 @@
 ghost use Rattle.std.specs.Prelude.{◌≡◌, ◌+◌, ◌*◌, ◌<◌, ◌≤◌, length};
 ghost use Rattle.formats.specs.Formats.{signed24, size_of};
 ghost use Rattle.track_rules.specs.Records.{record_bytes, record_of, laid_of, frame_slot, packet_slot};
+ghost use Rattle.records.specs.Room.{HasRoom};
 
 use records::laying;
 use samples::slots::{Sample, Signed24};
@@ -25,7 +26,7 @@ fn pair_frame(d: &[u8], from: usize, out: &mut [u8])
 
 // Two channels: a loop of its own, over frames read at once.
 fn pairs(d: &[u8], from: usize, frames: usize, track: &mut [u8], place: usize)
-    requires { (from + frames * (2 * size_of signed24) ≤ length d.now) × (place * record_bytes + frames * record_bytes ≤ length track.old) }
+    requires { HasRoom signed24 d.now from frames 2 track.old place }
     ensures { track.new ≡ laid_of track.old place frames (packet_slot signed24 d.now from 2) }
 {
     for k in 0..frames {
@@ -37,14 +38,14 @@ fn pairs(d: &[u8], from: usize, frames: usize, track: &mut [u8], place: usize)
 
 // Eight channels of 24 bits are the record, byte for byte.
 fn full(d: &[u8], from: usize, frames: usize, track: &mut [u8], place: usize)
-    requires { (from + frames * (8 * size_of signed24) ≤ length d.now) × (place * record_bytes + frames * record_bytes ≤ length track.old) }
+    requires { HasRoom signed24 d.now from frames 8 track.old place }
     ensures { track.new ≡ laid_of track.old place frames (packet_slot signed24 d.now from 8) }
 {
     words::copy(d, from, frames * RECORD, track, place * RECORD);
 }
 
 pub fn lay(d: &[u8], from: usize, frames: usize, channels: usize, track: &mut [u8], place: usize)
-    requires { (channels ≤ 8) × (from + frames * (channels * size_of signed24) ≤ length d.now) × (place * record_bytes + frames * record_bytes ≤ length track.old) }
+    requires { HasRoom signed24 d.now from frames channels track.old place }
     ensures { track.new ≡ laid_of track.old place frames (packet_slot signed24 d.now from channels) }
 {
     match channels {

@@ -6,6 +6,7 @@ ghost use Rattle.std.specs.Int.Bits.{bit_xor};
 ghost use Rattle.formats.specs.Formats.{unsigned8, size_of};
 ghost use Rattle.sample_rules.specs.Bits.{slot_of};
 ghost use Rattle.track_rules.specs.Records.{record_bytes, record_of, laid_of, frame_slot, packet_slot};
+ghost use Rattle.records.specs.Room.{HasRoom};
 
 use records::laying;
 use samples::slots;
@@ -51,7 +52,7 @@ fn full_frame(d: &[u8], from: usize, out: &mut [u8])
 
 // Eight channels: a loop of its own, over frames read at once.
 fn full(d: &[u8], from: usize, frames: usize, track: &mut [u8], place: usize)
-    requires { (from + frames * (8 * size_of unsigned8) ≤ length d.now) × (place * record_bytes + frames * record_bytes ≤ length track.old) }
+    requires { HasRoom unsigned8 d.now from frames 8 track.old place }
     ensures { track.new ≡ laid_of track.old place frames (packet_slot unsigned8 d.now from 8) }
 {
     for k in 0..frames {
@@ -62,7 +63,7 @@ fn full(d: &[u8], from: usize, frames: usize, track: &mut [u8], place: usize)
 }
 
 pub fn lay(d: &[u8], from: usize, frames: usize, channels: usize, track: &mut [u8], place: usize)
-    requires { (channels ≤ 8) × (from + frames * (channels * size_of unsigned8) ≤ length d.now) × (place * record_bytes + frames * record_bytes ≤ length track.old) }
+    requires { HasRoom unsigned8 d.now from frames channels track.old place }
     ensures { track.new ≡ laid_of track.old place frames (packet_slot unsigned8 d.now from channels) }
 {
     match channels {

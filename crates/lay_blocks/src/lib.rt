@@ -5,6 +5,7 @@ ghost use Rattle.std.specs.Prelude.{◌≡◌, ◌+◌, ◌*◌, ◌<◌, ◌≤
 ghost use Rattle.lists.specs.Lists.{put};
 ghost use Rattle.formats.specs.Formats.{size_of};
 ghost use Rattle.track_rules.specs.Records.{record_bytes, record_of, laid_of, packet_slot};
+ghost use Rattle.records.specs.Room.{HasRoom};
 ghost use Rattle.lay_blocks.specs.Blocks.{slots_from, Slots, block_slot, block_frames};
 
 use samples::slots::Sample;
@@ -73,7 +74,7 @@ fn blocks<S: Sample>(
     track: &mut [u8],
     place: usize,
 )
-    requires { (channels ≤ 8) × (1 ≤ most) × (most * channels ≤ 128) × (from + frames * (channels * size_of S.format) ≤ length d.now) × (place * record_bytes + frames * record_bytes ≤ length track.old) }
+    requires { (1 ≤ most) × (most * channels ≤ 128) × HasRoom S.format d.now from frames channels track.old place }
     ensures { track.new ≡ laid_of track.old place frames (packet_slot S.format d.now from channels) }
 {
     let step = channels * S::SIZE;
@@ -95,7 +96,7 @@ pub fn lay<S: Sample>(
     track: &mut [u8],
     place: usize,
 )
-    requires { (channels ≤ 8) × (from + frames * (channels * size_of S.format) ≤ length d.now) × (place * record_bytes + frames * record_bytes ≤ length track.old) }
+    requires { HasRoom S.format d.now from frames channels track.old place }
     ensures { track.new ≡ laid_of track.old place frames (packet_slot S.format d.now from channels) }
 {
     match channels {

@@ -4,6 +4,7 @@
 ghost use Rattle.std.specs.Prelude.{◌≡◌, ◌+◌, ◌*◌, ◌<◌, ◌≤◌, length};
 ghost use Rattle.formats.specs.Formats.{size_of};
 ghost use Rattle.track_rules.specs.Records.{record_bytes, record_of, laid_of, frame_slot, packet_slot};
+ghost use Rattle.records.specs.Room.{HasRoom};
 
 use samples::slots::Sample;
 use track_rules::RECORD;
@@ -39,7 +40,7 @@ pub fn frame<S: Sample>(d: &[u8], from: usize, channels: usize, out: &mut [u8])
 
 // A frame, in its record.
 pub fn one<S: Sample>(d: &[u8], from: usize, channels: usize, track: &mut [u8], place: usize)
-    requires { (channels ≤ 8) × (from + channels * size_of S.format ≤ length d.now) × (place * record_bytes + record_bytes ≤ length track.old) }
+    requires { HasRoom S.format d.now from 1 channels track.old place }
     ensures { track.new ≡ laid_of track.old place 1 (packet_slot S.format d.now from channels) }
 {
     let a = place * RECORD;
@@ -56,7 +57,7 @@ pub fn some<S: Sample>(
     track: &mut [u8],
     place: usize,
 )
-    requires { (channels ≤ 8) × (from + frames * (channels * size_of S.format) ≤ length d.now) × (place * record_bytes + frames * record_bytes ≤ length track.old) }
+    requires { HasRoom S.format d.now from frames channels track.old place }
     ensures { track.new ≡ laid_of track.old place frames (packet_slot S.format d.now from channels) }
 {
     let step = channels * S::SIZE;
@@ -67,7 +68,7 @@ pub fn some<S: Sample>(
 
 // The next two frames.
 fn two<S: Sample>(d: &[u8], from: usize, channels: usize, track: &mut [u8], place: usize)
-    requires { (channels ≤ 8) × (from + 2 * (channels * size_of S.format) ≤ length d.now) × (place * record_bytes + 2 * record_bytes ≤ length track.old) }
+    requires { HasRoom S.format d.now from 2 channels track.old place }
     ensures { track.new ≡ laid_of track.old place 2 (packet_slot S.format d.now from channels) }
 {
     one::<S>(d, from, channels, track, place);
@@ -83,7 +84,7 @@ pub fn few<S: Sample>(
     track: &mut [u8],
     place: usize,
 )
-    requires { (channels ≤ 8) × (from + frames * (channels * size_of S.format) ≤ length d.now) × (place * record_bytes + frames * record_bytes ≤ length track.old) }
+    requires { HasRoom S.format d.now from frames channels track.old place }
     ensures { track.new ≡ laid_of track.old place frames (packet_slot S.format d.now from channels) }
 {
     let step = channels * S::SIZE;

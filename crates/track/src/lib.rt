@@ -1,10 +1,10 @@
 // A track lent to the box: how many records it holds, clearing it, and laying a packet's frames in it.
 #![tactic(auto)]
 
-ghost use Rattle.std.specs.Prelude.{◌≡◌, ◌+◌, ◌*◌, ◌≤◌, length};
+ghost use Rattle.std.specs.Prelude.{◌≡◌};
 ghost use Rattle.formats.specs.declared.Format.TheVariants.{Whole};
-ghost use Rattle.formats.specs.Formats.{whole_size};
-ghost use Rattle.track_rules.specs.Records.{record_bytes, records_held, cleared_of, laid_of, packet_slot};
+ghost use Rattle.track_rules.specs.Records.{records_held, cleared_of, laid_of, packet_slot};
+ghost use Rattle.records.specs.Room.{HasRoom};
 
 use formats::Integer;
 use samples::slots::Signed32;
@@ -35,7 +35,7 @@ pub fn lay(
     track: &mut [u8],
     place: usize,
 )
-    requires { (channels ≤ 8) × (from + frames * (channels * whole_size f) ≤ length d.now) × (place * record_bytes + frames * record_bytes ≤ length track.old) }
+    requires { HasRoom (Whole f) d.now from frames channels track.old place }
     ensures { track.new ≡ laid_of track.old place frames (packet_slot (Whole f) d.now from channels) }
 {
     match f {
