@@ -14,7 +14,7 @@ use Rattle.formats.specs.Formats.{signed16}
 use Rattle.sample_rules.specs.Bits.{slot_of}
 use Rattle.track_rules.specs.Records.{record_of, records_of, frame_slot, packet_slot}
 use Rattle.records.specs.Frames.{half_of}
-use Rattle.records.proofs.Laying.{heard, silent, framed}
+use Rattle.records.proofs.Laid.{heard, silent, framed}
 use Rattle.lay16.specs.Rows.{in_row}
 
 module _ (d : List ℕ) (from : ℕ) where

@@ -5,77 +5,25 @@ ghost use Rattle.std.specs.Prelude.{◌≡◌, ◌∷◌, [], ◌+◌, ◌*◌, 
 ghost use Rattle.lists.specs.Lists.{byte, put};
 ghost use Rattle.formats.specs.Formats.{signed16, size_of};
 ghost use Rattle.sample_rules.specs.Bits.{slot_of};
-ghost use Rattle.track_rules.specs.Records.{record_bytes, slot_bytes, record_of, laid_of, frame_slot, packet_slot};
+ghost use Rattle.track_rules.specs.Records.{record_bytes, slot_bytes, record_of, laid_of, packet_slot};
+ghost use Rattle.records.specs.Room.{HasRoom};
 ghost use Rattle.records.specs.Frames.{half_of};
 ghost use Rattle.lay16.specs.Rows.{in_row};
 
-use formats::Integer;
-use samples::slots;
+use records::laying;
+use samples::slots::{Sample, Signed16};
 use track_rules::RECORD;
 
 const HALF: usize = RECORD / 2;
 
-const HALF_FRAME: usize = 4 * Integer::SIGNED16_SIZE;
-
-// Slot `c` of the frame at `from`.
-fn slot(d: &[u8], from: usize, channels: usize, c: usize) -> u64
-    requires { (channels ≤ 8) × (from + channels * size_of signed16 ≤ length d.now) }
-    ensures { (result ≡ frame_slot signed16 d.now from channels c) × (result < 16777216) }
-{
-    if c < channels {
-        let a = from + c * Integer::SIGNED16_SIZE;
-        return words::wider(slots::from_signed16(words::get2(d, a)));
-    }
-    0
-}
-
-// All slots are read before any is stored: nothing tells the compiler that the slices are apart.
-fn frame(d: &[u8], from: usize, channels: usize, out: &mut [u8])
-    requires { (channels ≤ 8) × (from + channels * size_of signed16 ≤ length d.now) × (length out.old ≡ record_bytes) }
-    ensures { out.new ≡ record_of (frame_slot signed16 d.now from channels) }
-{
-    records::put_record(
-        out,
-        slot(d, from, channels, 0),
-        slot(d, from, channels, 1),
-        slot(d, from, channels, 2),
-        slot(d, from, channels, 3),
-        slot(d, from, channels, 4),
-        slot(d, from, channels, 5),
-        slot(d, from, channels, 6),
-        slot(d, from, channels, 7),
-    );
-}
-
-// A frame, in its record.
-fn one(d: &[u8], from: usize, channels: usize, track: &mut [u8], place: usize)
-    requires { (channels ≤ 8) × (from + channels * size_of signed16 ≤ length d.now) × (place * record_bytes + record_bytes ≤ length track.old) }
-    ensures { track.new ≡ laid_of track.old place 1 (packet_slot signed16 d.now from channels) }
-{
-    let a = place * RECORD;
-    let e = a + RECORD;
-    frame(d, from, channels, &mut track[a..e]);
-}
-
-// A frame a turn. Called with a literal count, the tests on it fold away.
-fn some(d: &[u8], from: usize, frames: usize, channels: usize, track: &mut [u8], place: usize)
-    requires { (channels ≤ 8) × (from + frames * (channels * size_of signed16) ≤ length d.now) × (place * record_bytes + frames * record_bytes ≤ length track.old) }
-    ensures { track.new ≡ laid_of track.old place frames (packet_slot signed16 d.now from channels) }
-{
-    let step = channels * Integer::SIGNED16_SIZE;
-    let mut k = 0;
-    while k < frames {
-        one(d, from + k * step, channels, track, place + k);
-        k += 1;
-    }
-}
+const HALF_FRAME: usize = 4 * Signed16::SIZE;
 
 // The slot of one of a word's samples.
 fn part(w: u32, p: u32) -> u32
     requires { 0 < p }
     ensures { (result ≡ slot_of signed16 (w / p % 65536)) × (result < 16777216) }
 {
-    slots::from_signed16(w / p % 65536)
+    Signed16::slot(w / p % 65536)
 }
 
 // A record of two slots, the others silent.
@@ -85,13 +33,22 @@ fn small(track: &mut [u8], place: usize, c0: u32, c1: u32)
 {
     let a = place * RECORD;
     let e = a + RECORD;
-    let v = words::wider(c0);
-    records::put_record(&mut track[a..e], v, words::wider(c1), 0, 0, 0, 0, 0, 0);
+    records::put_record(
+        &mut track[a..e],
+        u64::from(c0),
+        u64::from(c1),
+        0,
+        0,
+        0,
+        0,
+        0,
+        0,
+    );
 }
 
 // The next two frames of one or two channels, read as words before any is stored.
 fn two(d: &[u8], from: usize, channels: usize, track: &mut [u8], place: usize)
-    requires { (1 ≤ channels) × (channels ≤ 2) × (from + 2 * (channels * size_of signed16) ≤ length d.now) × (place * record_bytes + 2 * record_bytes ≤ length track.old) }
+    requires { (1 ≤ channels) × (channels ≤ 2) × HasRoom signed16 d.now from 2 channels track.old place }
     ensures { track.new ≡ laid_of track.old place 2 (packet_slot signed16 d.now from channels) }
 {
     let v = words::get4(d, from);
@@ -107,17 +64,15 @@ fn two(d: &[u8], from: usize, channels: usize, track: &mut [u8], place: usize)
 
 // Two frames a turn, and the one that may be left.
 fn few(d: &[u8], from: usize, frames: usize, channels: usize, track: &mut [u8], place: usize)
-    requires { (1 ≤ channels) × (channels ≤ 2) × (from + frames * (channels * size_of signed16) ≤ length d.now) × (place * record_bytes + frames * record_bytes ≤ length track.old) }
+    requires { (1 ≤ channels) × (channels ≤ 2) × HasRoom signed16 d.now from frames channels track.old place }
     ensures { track.new ≡ laid_of track.old place frames (packet_slot signed16 d.now from channels) }
 {
-    let step = channels * Integer::SIGNED16_SIZE;
+    let step = channels * Signed16::SIZE;
     let count = frames / 2;
-    let mut k = 0;
-    while k < count {
+    for k in 0..count {
         two(d, from + k * 2 * step, channels, track, place + k * 2);
-        k += 1;
     }
-    some(
+    laying::some::<Signed16>(
         d,
         from + count * 2 * step,
         frames % 2,
@@ -139,34 +94,24 @@ fn half(d: &[u8], from: usize, out: &mut [u8])
 
 // Eight channels: every slot has a sample, so slots follow each other as samples do.
 fn full(d: &[u8], from: usize, frames: usize, track: &mut [u8], place: usize)
-    requires { (from + frames * (8 * size_of signed16) ≤ length d.now) × (place * record_bytes + frames * record_bytes ≤ length track.old) }
+    requires { HasRoom signed16 d.now from frames 8 track.old place }
     ensures { track.new ≡ laid_of track.old place frames (packet_slot signed16 d.now from 8) }
 {
-    let count = frames * 2;
-    let mut k = 0;
-    while k < count {
+    for k in 0..frames * 2 {
         let a = (place * 2 + k) * HALF;
         let e = a + HALF;
         half(d, from + k * HALF_FRAME, &mut track[a..e]);
-        k += 1;
     }
 }
 
 pub fn lay(d: &[u8], from: usize, frames: usize, channels: usize, track: &mut [u8], place: usize)
-    requires { (channels ≤ 8) × (from + frames * (channels * size_of signed16) ≤ length d.now) × (place * record_bytes + frames * record_bytes ≤ length track.old) }
+    requires { HasRoom signed16 d.now from frames channels track.old place }
     ensures { track.new ≡ laid_of track.old place frames (packet_slot signed16 d.now from channels) }
 {
-    if channels == 2 {
-        few(d, from, frames, 2, track, place);
-        return;
+    match channels {
+        1 => few(d, from, frames, 1, track, place),
+        2 => few(d, from, frames, 2, track, place),
+        8 => full(d, from, frames, track, place),
+        _ => laying::some::<Signed16>(d, from, frames, channels, track, place),
     }
-    if channels == 8 {
-        full(d, from, frames, track, place);
-        return;
-    }
-    if channels == 1 {
-        few(d, from, frames, 1, track, place);
-        return;
-    }
-    some(d, from, frames, channels, track, place);
 }

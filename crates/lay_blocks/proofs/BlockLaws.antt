@@ -10,15 +10,15 @@ use lib.ListN.{length, get_or, set, replicate}
 use borrow.Author.Tests.{lt-ltb, le-ltb}
 use Rattle.lists.specs.Lists.{byte, put}
 use Rattle.lists.specs.Little.{little, bytes_of}
-use Rattle.lists.proofs.Lists.{within, put_length, zero_at, put_inside, put_after, up_to_same, up_to_length, up_to_at}
+use Rattle.lists.proofs.Lists.{within, zero_at, put_inside, put_after, up_to_same, up_to_length, up_to_at}
 use Rattle.lists.proofs.Loops.{Pieces, start, more, next_set, end}
 use Rattle.formats.specs.declared.Format.{Format}
 use Rattle.formats.specs.Formats.{size_of}
 use Rattle.sample_rules.specs.Bits.{slot_of}
 use Rattle.sample_rules.proofs.Bits.{slot_below}
 use Rattle.track_rules.specs.Records.{record_of, records_of, laid_of, frame_slot, packet_slot}
-use Rattle.records.proofs.Laying.{Laying}
-use Rattle.lay_blocks.specs.Blocks.{sample_slot, slots_from, Slots, block_slot, block_frames}
+use Rattle.records.proofs.Laid.{Laying}
+use Rattle.lay_blocks.specs.Blocks.{sample_slot, slots_from, Slots, block_frames}
 
 -- ---- filling: after i turns i samples are brought to slots
 
@@ -27,22 +27,14 @@ module _ (f : Format) (d : List ℕ) (from n : ℕ) (block₀ : List ℕ) where
   fill_start m = start 1 (sample_slot f d from) (λ i. refl) n block₀ 0 (omega arith)
 
   module _ (block : List ℕ) (i : ℕ) (l : Pieces 1 (sample_slot f d from) n block₀ 0 block i) where
-    pub fill_next : (a u v : ℕ) → i < n → a ≡ from + i * size_of f → u ≡ little (size_of f) d a → v ≡ slot_of f u
+    -- by sizes that are the type's
+    pub fill_next : (size m u v : ℕ) → i < n → u ≡ little size d (from + i * m) → v ≡ slot_of f u → size ≡ size_of f → m ≡ size
         → Pieces 1 (sample_slot f d from) n block₀ 0 (set block i v) (i + 1)
-    fill_next a u v h e p q = next_set (sample_slot f d from) n block₀ block i l v h (rw (q, p, e))
+    fill_next size m u v h p q z y = next_set (sample_slot f d from) n block₀ block i l v h (rw (q, p, y, z))
 
     pub fill_end : n ≤ i → block ≡ put block₀ 0 (slots_from f d from n)
     unfolding slots_from
     fill_end h = end 1 (sample_slot f d from) n block₀ 0 block i l h
-
--- ---- a frame of the block
-
-module _ (block : List ℕ) (at channels : ℕ) where
-  pub held : (c x r : ℕ) → c < channels → x ≡ get_or block (at + c) 0 → r ≡ x → r ≡ block_slot block at channels c
-  held c x r h p q = rw (lt-ltb c channels h) (q ∙ p)
-
-  pub silent : (c : ℕ) → channels ≤ c → 0 ≡ block_slot block at channels c
-  silent c h = rw (le-ltb c channels h)
 
 -- ---- what a block holds once slots are put over one that holds slots
 
@@ -72,9 +64,6 @@ module _ (f : Format) (d : List ℕ) (from n : ℕ) (block₀ block : List ℕ)
       | no h ↦ rw (rest j (omega arith)) (s.below j)
     ];
   }
-
-  pub as_long : n ≤ length block₀ → length block ≡ length block₀
-  as_long m = ap length e ∙ put_length block₀ (slots_from f d from n) 0 (rw slots_length (omega arith))
 
 -- its frames are the packet's from the k-th on, s being the size of a sample
 module _ (f : Format) (d : List ℕ) (from k channels n s : ℕ) (q : s ≡ size_of f) (block₀ block : List ℕ)
@@ -107,9 +96,6 @@ zeros = record { below = λ j. rw (zero_at 128 j) (lit< tt) }
 -- ---- a turn's numbers: n frames from the k-th on
 
 module _ (k frames channels most n : ℕ) (h : k < frames) (e : n ≡ min (frames - k) most) where
-  pub some : 1 ≤ most → 1 ≤ n
-  some m = omega arith
-
   pub no_more : k + n ≤ frames
   no_more = omega arith
 

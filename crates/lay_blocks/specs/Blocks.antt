@@ -1,24 +1,11 @@
--- What the code's loops keep in a block of slots, and which types they lay by way of one. There is nothing to believe here.
-use Rattle.std.specs.Prelude.{ℕ, ◌+◌, ◌*◌, ◌<◌, List, [], ◌∷◌, Bool, true, false, get_or, ltb}
+-- What the code's loops keep in a block of slots. There is nothing to believe here.
+use Rattle.std.specs.Prelude.{ℕ, ◌+◌, ◌*◌, ◌<◌, List, [], ◌∷◌, get_or, ltb}
 use Rattle.lists.specs.Lists.{up_to}
 use Rattle.lists.specs.Little.{little}
 use Rattle.lists.specs.Tables.{choose}
 use Rattle.formats.specs.declared.Format.{Format}
-use Rattle.formats.specs.declared.Format.TheVariants.{Whole, Other}
-use Rattle.formats.specs.declared.Integer.{Integer}
-use Rattle.formats.specs.declared.Integer.TheVariants.{Unsigned8, Signed16, Signed24, Signed32}
 use Rattle.formats.specs.Formats.{size_of}
 use Rattle.sample_rules.specs.Bits.{slot_of}
-
-abbrev pub whole_by_block : Integer → Bool
-whole_by_block Unsigned8 = false
-whole_by_block Signed16 = false
-whole_by_block Signed24 = false
-whole_by_block Signed32 = true
-
-abbrev pub by_block : Format → Bool
-by_block (Whole f) = whole_by_block f
-by_block Other = false
 
 -- the slot of sample i of those from byte from on, as a piece of the block
 abbrev pub sample_slot : Format → List ℕ → ℕ → ℕ → List ℕ

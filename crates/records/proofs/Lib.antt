@@ -1,5 +1,5 @@
 pub mod Packing
-pub mod Laying
+pub mod Laid
 pub mod Taking
 pub mod Turns
 pub mod Runs

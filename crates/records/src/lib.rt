@@ -7,6 +7,7 @@ ghost use Rattle.lists.specs.Little.{little};
 ghost use Rattle.track_rules.specs.Records.{record_bytes, slot_bytes, record_of};
 ghost use Rattle.records.specs.Frames.{half_of};
 
+pub mod laying;
 pub mod taken;
 
 // Eight slots, as three words: stores of three bytes would not be joined.

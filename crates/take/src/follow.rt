@@ -31,8 +31,11 @@ pub fn lay(format: u8, frames: u16, channels: u16, d: &[u8], place: usize, track
     requires channels_bound { (channels ≤ 8) × (length d.now ≡ header_size + frames * channels * size_at format) × (place + frames ≤ records_held track.old) }
     ensures { track.new ≡ laid_of track.old place frames (packet_slot (format_of format) d.now header_size channels) }
 {
+    let Format::Whole(f) = Format::from(format) else {
+        unreachable!()
+    };
     track::lay(
-        Format::of_index(format),
+        f,
         d,
         HEADER,
         frames as usize,

@@ -1,12 +1,13 @@
 // A track lent to the box: how many records it holds, clearing it, and laying a packet's frames in it.
 #![tactic(auto)]
 
-ghost use Rattle.std.specs.Prelude.{◌≡◌, ◌+◌, ◌*◌, ◌≤◌, length};
-ghost use Rattle.formats.specs.declared.Format.TheVariants.{Whole, Other};
-ghost use Rattle.formats.specs.Formats.{whole_size, size_of};
-ghost use Rattle.track_rules.specs.Records.{record_bytes, records_held, cleared_of, laid_of, packet_slot};
+ghost use Rattle.std.specs.Prelude.{◌≡◌};
+ghost use Rattle.formats.specs.declared.Format.TheVariants.{Whole};
+ghost use Rattle.track_rules.specs.Records.{records_held, cleared_of, laid_of, packet_slot};
+ghost use Rattle.records.specs.Room.{HasRoom};
 
-use formats::{Format, Integer};
+use formats::Integer;
+use samples::slots::Signed32;
 use track_rules::RECORD;
 
 // How many whole records the track holds.
@@ -16,20 +17,16 @@ pub fn held(track: &[u8]) -> usize
     track.len() / RECORD
 }
 
-// Clears all whole records. Byte by byte, which becomes one call that clears memory.
+// Clears all whole records, by one call that clears memory.
 pub fn clear(track: &mut [u8])
     ensures { track.new ≡ cleared_of track.old }
 {
     let end = track.len() / RECORD * RECORD;
-    let mut i = 0;
-    while i < end {
-        track[i] = 0;
-        i += 1;
-    }
+    track[..end].fill(0);
 }
 
-// Whole numbers, each by its own loops.
-fn lay_whole(
+// Lays frames of a packet's data, which start at byte `from`, at a place of the track: each type by its own loops.
+pub fn lay(
     f: Integer,
     d: &[u8],
     from: usize,
@@ -38,41 +35,15 @@ fn lay_whole(
     track: &mut [u8],
     place: usize,
 )
-    requires { (channels ≤ 8) × (from + frames * (channels * whole_size f) ≤ length d.now) × (place * record_bytes + frames * record_bytes ≤ length track.old) }
+    requires { HasRoom (Whole f) d.now from frames channels track.old place }
     ensures { track.new ≡ laid_of track.old place frames (packet_slot (Whole f) d.now from channels) }
 {
     match f {
         Integer::Unsigned8 => lay8::lay(d, from, frames, channels, track, place),
         Integer::Signed16 => lay16::lay(d, from, frames, channels, track, place),
         Integer::Signed24 => lay24::lay(d, from, frames, channels, track, place),
-        Integer::Signed32 => lay_blocks::lay(
-            Format::Whole(Integer::Signed32),
-            d,
-            from,
-            frames,
-            channels,
-            track,
-            place,
-        ),
-    }
-}
-
-// Lays frames of a packet's data, which start at byte `from`, at a place of the track.
-pub fn lay(
-    f: Format,
-    d: &[u8],
-    from: usize,
-    frames: usize,
-    channels: usize,
-    track: &mut [u8],
-    place: usize,
-)
-    requires fact { f ≡ Other → ⊥ }
-    requires channels_bound { (channels ≤ 8) × (from + frames * (channels * size_of f) ≤ length d.now) × (place * record_bytes + frames * record_bytes ≤ length track.old) }
-    ensures { track.new ≡ laid_of track.old place frames (packet_slot f d.now from channels) }
-{
-    match f {
-        Format::Whole(w) => lay_whole(w, d, from, frames, channels, track, place),
-        Format::Other => {}
+        Integer::Signed32 => {
+            lay_blocks::lay::<Signed32>(d, from, frames, channels, track, place)
+        }
     }
 }

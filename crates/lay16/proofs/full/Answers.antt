@@ -10,48 +10,19 @@ use Rattle.records.proofs.Packing.{half_length}
 use Rattle.lay16.proofs.Rows.{all_laid}
 use Rattle.lay16.proofs.full.Goals as goal
 
-pub overflow_mul-count : goal.overflow_mul-count
-overflow_mul-count c = omega arith
-
 pub loop-k-init : goal.loop-k-init
 loop-k-init c = start 12 _ (λ i. half_length _) _ _ _ (omega arith)
 
-pub overflow_mul-a : goal.overflow_mul-a
-overflow_mul-a c = omega arith
-
-pub overflow_add-a : goal.overflow_add-a
-overflow_add-a c = omega arith
-
-pub overflow_mul-a-in-loop-k : goal.overflow_mul-a-in-loop-k
-overflow_mul-a-in-loop-k c = omega arith
-
-pub overflow_add-e : goal.overflow_add-e
-overflow_add-e c = omega arith
-
-pub overflow_mul-k : goal.overflow_mul-k
-overflow_mul-k c = omega arith
-
-pub overflow_add-from : goal.overflow_add-from
-overflow_add-from c = omega arith
-
 pub slice_bounds-half-end : goal.slice_bounds-half-end
 slice_bounds-half-end c =
-    let p = c.args.place in let at : let k = c.loop-k.k in (p * 2 + k) * 12 ≡ p * 24 + k * 12 = omega arith in
-    let has : (c.args.place * 2 + c.loop-k.k) * 12 + 12 ≤ length c.loop-k.track = there 12 _ _ _ _ _ _ c.loop-k.invariant _ c.loop-k-test.true (at) in
+    let at : (c.args.place * 2 + c.loop-k.k) * 12 ≡ c.args.place * 24 + c.loop-k.k * 12 = omega arith in
+    let has : (c.args.place * 2 + c.loop-k.k) * 12 + 12 ≤ length c.loop-k.track = there 12 _ _ _ _ _ _ c.loop-k.invariant _ c.loop-k-test.true at in
     omega (arith, has)
-
-pub half-requires : goal.half-requires
-half-requires c =
-    let p = c.args.place in let at : let k = c.loop-k.k in (p * 2 + k) * 12 ≡ p * 24 + k * 12 = omega arith in
-    let has : (c.args.place * 2 + c.loop-k.k) * 12 + 12 ≤ length c.loop-k.track = there 12 _ _ _ _ _ _ c.loop-k.invariant _ c.loop-k-test.true (at) in
-    (omega arith, omega (arith, has, c.half-arg-1.given.2))
 
 pub loop-k-preserved : goal.loop-k-preserved
 loop-k-preserved c =
-    let p = c.args.place in let at : let k = c.loop-k.k in (p * 2 + k) * 12 ≡ p * 24 + k * 12 = omega arith in
-    let y = c in
-    let i = y in
-    next 12 _ _ _ _ _ _ i.loop-k.invariant _ _ i.loop-k-test.true (at) y.half.ensures
+    let at : (c.args.place * 2 + c.loop-k.k) * 12 ≡ c.args.place * 24 + c.loop-k.k * 12 = omega arith in
+    next 12 _ _ _ _ _ _ c.loop-k.invariant _ _ c.loop-k-test.true at c.half.ensures
 
 pub returns : goal.returns
 unfolding laid_of

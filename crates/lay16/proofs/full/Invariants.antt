@@ -1,5 +1,5 @@
 -- Half a record a turn, each in the part of the track that it is lent.
-use Prim.Native.Nat.{◌+◌, ◌*◌, ◌-◌}
+use Prim.Native.Nat.{◌+◌, ◌*◌}
 use Rattle.lists.proofs.Loops.{Pieces}
 use Rattle.records.specs.Frames.{half_of}
 use Rattle.lay16.specs.Rows.{in_row}
@@ -7,6 +7,3 @@ use Rattle.lay16.proofs.full.Given as goal
 
 abbrev pub invariant-loop-k : goal.invariant-loop-k
 invariant-loop-k l = Pieces 12 (λ i. half_of (in_row l.d (l.from + i * 8))) (l.frames * 2) l.initial.track (l.place * 24) l.track l.k
-
-abbrev pub decreases-loop-k : goal.decreases-loop-k
-decreases-loop-k l = l.frames * 2 - l.k

@@ -28,5 +28,4 @@ module _ (d : List ℕ) (below : (i : ℕ) → byte d i < 256) (from : ℕ) wher
       )
 
 pub returns : goal.returns
-returns c = let o = c in
-    search (four o.args.d.now (λ i. (o.type_inv.d i).fits))
+returns c = search (four c.args.d.now (λ i. (c.type_inv.d i).fits))

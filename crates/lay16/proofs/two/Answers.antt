@@ -5,13 +5,12 @@ use Prim.Native.Nat.{ℕ, ◌+◌, ◌*◌, ◌/◌, ◌%◌, ◌≤◌, ◌<◌
 use native.Mathlib.Nat.{add-zero}
 use native.Mathlib.Omega.{arith}
 use lib.ListN.{length}
-use borrow.Author.Rules.{rules}
 use Rattle.lists.specs.Lists.{byte, put}
 use Rattle.lists.specs.Little.{little}
 use Rattle.formats.specs.Formats.{signed16}
 use Rattle.sample_rules.specs.Bits.{slot_of}
 use Rattle.track_rules.specs.Records.{record_of, laid_of, packet_slot}
-use Rattle.records.proofs.Laying.{lay_second}
+use Rattle.records.proofs.Laid.{lay_second}
 use Rattle.lay16.proofs.Rows.{in_word, one_channel, two_channels}
 use Rattle.lay16.proofs.two.Goals as goal
 
@@ -39,52 +38,19 @@ module _ (d : List ℕ) (below : (i : ℕ) → byte d i < 256) (from : ℕ) (tra
       ∙ ap (put out ((place + 1) * 24))
       (two_channels d from 1 r2 r3 (in_word d from below 4 0 2 w r2 2 f refl e2) (in_word d from below 4 2 0 w r3 3 f refl e3)))
 
-pub get4-v-requires : goal.get4-v-requires
-get4-v-requires c = omega arith
-
-pub small-requires : goal.small-requires
-small-requires c = (omega arith, search rules, search rules)
-
-pub overflow_add-place : goal.overflow_add-place
-overflow_add-place c = omega arith
-
-pub small-requires-then-channels-eq1 : goal.small-requires-then-channels-eq1
-small-requires-then-channels-eq1 c = (omega arith, search rules, search rules)
-
 pub returns-then-channels-eq1 : goal.returns-then-channels-eq1
-returns-then-channels-eq1 c = let y = c in
-    let x = y in
-    let t = x in
-    let g = t in
-    let a = g.args in
+returns-then-channels-eq1 c =
+    let a = c.args in
     let z : a.channels ≡ 1 = omega arith in
     rw z
-    (ones a.d.now (λ i. (g.type_inv.d i).fits) a.from a.track.now a.place (omega arith) _
-    (rw (add-zero a.from) g.get4-v.ensures) _ _ x.part.ensures.0 y.part-then-channels-eq1.ensures.0 _ _ x.small.ensures y.small-then-channels-eq1.ensures)
-
-pub overflow_add-from : goal.overflow_add-from
-overflow_add-from c = omega arith
-
-pub get4-w-requires : goal.get4-w-requires
-get4-w-requires c = omega arith
-
-pub small-requires-2 : goal.small-requires-2
-small-requires-2 c = (omega arith, search rules, search rules)
-
-pub overflow_add-place-2 : goal.overflow_add-place-2
-overflow_add-place-2 c = omega arith
-
-pub small-requires-3 : goal.small-requires-3
-small-requires-3 c = (omega arith, search rules, search rules)
+    (ones a.d.now (λ i. (c.type_inv.d i).fits) a.from a.track.now a.place (omega arith) _
+    (rw (add-zero a.from) c.get4-v.ensures) _ _ c.part.ensures.0 c.part-then-channels-eq1.ensures.0 _ _ c.small.ensures c.small-then-channels-eq1.ensures)
 
 pub returns : goal.returns
-returns c = let y = c in
-    let x = y in
-    let w = x in
-    let g = w in
-    let a = g.args in
+returns c =
+    let a = c.args in
     let z : a.channels ≡ 2 = omega arith in
     rw z
-    (pairs a.d.now (λ i. (g.type_inv.d i).fits) a.from a.track.now a.place (omega arith) _
-    (rw (add-zero a.from) g.get4-v.ensures) _ _ x.part-2.ensures.0 x.part-3.ensures.0 _ _ _ _ _
-    w.get4-w.ensures y.part-4.ensures.0 y.part-5.ensures.0 x.small-2.ensures y.small-3.ensures)
+    (pairs a.d.now (λ i. (c.type_inv.d i).fits) a.from a.track.now a.place (omega arith) _
+    (rw (add-zero a.from) c.get4-v.ensures) _ _ c.part-2.ensures.0 c.part-3.ensures.0 _ _ _ _ _
+    c.get4-w.ensures c.part-4.ensures.0 c.part-5.ensures.0 c.small-2.ensures c.small-3.ensures)

@@ -13,7 +13,7 @@ use Rattle.lists.proofs.Little.{little_below, little_joined}
 use Rattle.formats.specs.Formats.{signed24}
 use Rattle.track_rules.specs.Records.{record_of, frame_slot}
 use Rattle.records.proofs.Packing.{packed}
-use Rattle.records.proofs.Laying.{heard, silent, framed}
+use Rattle.records.proofs.Laid.{heard, silent, framed}
 use Rattle.lay24.proofs.Copying.{same_slot}
 use Rattle.lay24.proofs.pair_frame.Goals as goal
 
@@ -42,5 +42,4 @@ module _ (d : List ℕ) (below : (i : ℕ) → byte d i < 256) (from : ℕ) wher
       (silent signed24 d from 2 4 (lit≤ tt)) (silent signed24 d from 2 5 (lit≤ tt)) (silent signed24 d from 2 6 (lit≤ tt)) (silent signed24 d from 2 7 (lit≤ tt))
 
 pub returns : goal.returns
-returns c = let o = c in
-    search (paired o.args.d.now (λ i. (o.type_inv.d i).fits))
+returns c = search (paired c.args.d.now (λ i. (c.type_inv.d i).fits))

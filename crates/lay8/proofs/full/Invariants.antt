@@ -1,12 +1,8 @@
 -- A record a turn, each in the part of the track that it is lent.
-use Prim.Native.Nat.{◌-◌}
 use Rattle.formats.specs.Formats.{unsigned8}
 use Rattle.track_rules.specs.Records.{packet_slot}
-use Rattle.records.proofs.Laying.{Laying}
+use Rattle.records.proofs.Laid.{Laying}
 use Rattle.lay8.proofs.full.Given as goal
 
 abbrev pub invariant-loop-k : goal.invariant-loop-k
 invariant-loop-k l = Laying (packet_slot unsigned8 l.d l.from 8) l.frames l.initial.track l.place l.track l.k
-
-abbrev pub decreases-loop-k : goal.decreases-loop-k
-decreases-loop-k l = l.frames - l.k

@@ -12,7 +12,7 @@ use Rattle.lists.proofs.Little.{little_one, little_byte}
 use Rattle.formats.specs.Formats.{unsigned8}
 use Rattle.sample_rules.specs.Bits.{slot_of}
 use Rattle.track_rules.specs.Records.{record_of, frame_slot}
-use Rattle.records.proofs.Laying.{heard, framed}
+use Rattle.records.proofs.Laid.{heard, framed}
 use Rattle.words.proofs.Flipped.{flipped_byte}
 use Rattle.lay8.proofs.full_frame.Goals as goal
 
@@ -45,5 +45,4 @@ module _ (d : List ℕ) (below : (i : ℕ) → byte d i < 256) (from : ℕ) wher
       (one 6 48 r6 (lit< tt) refl refl e6) (one 7 56 r7 (lit< tt) refl refl e7)
 
 pub returns : goal.returns
-returns c = let o = c in
-    search (word_framed o.args.d.now (λ i. (o.type_inv.d i).fits))
+returns c = search (word_framed c.args.d.now (λ i. (c.type_inv.d i).fits))
