@@ -12,43 +12,32 @@ pub fn wider(x: u32) -> u64
     u64::from(x)
 }
 
-// The number of the `N` bytes from `a` on.
-pub fn get<const N: usize>(d: &[u8], a: usize) -> u32
-    requires { (N ≤ 4) × (a + N ≤ length d.now) }
-    ensures { (result ≡ little N d.now a) × (result < 256 ^ N) }
-{
-    let end = a + N;
-    let mut bytes = [0u8; 4];
-    bytes[..N].copy_from_slice(&d[a..end]);
-    u32::from_le_bytes(bytes)
-}
-
 pub fn get1(d: &[u8], a: usize) -> u32
     requires { a + 1 ≤ length d.now }
     ensures { (result ≡ little 1 d.now a) × (result < 256) }
 {
-    get::<1>(d, a)
+    u32::from(d[a])
 }
 
 pub fn get2(d: &[u8], a: usize) -> u32
     requires { a + 2 ≤ length d.now }
     ensures { (result ≡ little 2 d.now a) × (result < 65536) }
 {
-    get::<2>(d, a)
+    u32::from_le_bytes([d[a], d[a + 1], 0, 0])
 }
 
 pub fn get3(d: &[u8], a: usize) -> u32
     requires { a + 3 ≤ length d.now }
     ensures { (result ≡ little 3 d.now a) × (result < 16777216) }
 {
-    get::<3>(d, a)
+    u32::from_le_bytes([d[a], d[a + 1], d[a + 2], 0])
 }
 
 pub fn get4(d: &[u8], a: usize) -> u32
     requires { a + 4 ≤ length d.now }
     ensures { result ≡ little 4 d.now a }
 {
-    get::<4>(d, a)
+    u32::from_le_bytes([d[a], d[a + 1], d[a + 2], d[a + 3]])
 }
 
 // The number of four bytes, 0 past the slice's end.

@@ -1,0 +1,13 @@
+-- The library's number of the bytes there.
+use mathlib.Core.Path.{◌≡◌, refl}
+use native.Mathlib.Omega.{arith}
+use Rattle.std.proofs.Common.{rules}
+use Rattle.lists.specs.Little.{little}
+use Rattle.lists.proofs.Little.{little_below}
+use Rattle.words.proofs.Words.{bytes2}
+use Rattle.words.proofs.get2.Goals as goal
+
+pub returns : goal.returns
+returns c =
+    let e : c.from_le_bytes.result ≡ little 2 c.args.d.now c.args.a = omega (arith, c.from_le_bytes.ensures, bytes2 c.args.d.now c.args.a _ refl _ refl) in
+    (e, rw e (little_below 2 c.args.d.now c.args.a (search rules)))
