@@ -1,8 +1,8 @@
 -- A header's default, which its derive gives field by field.
-use Rattle.std.proofs.Common.{◌≡◌, refl, sym, ◌∙◌, arith}
+use Rattle.std.proofs.Common.{◌≡◌, sym, ◌∙◌, arith}
 use Rattle.std.specs.Array.{AllOfLen}
 use Rattle.std.proofs.lemmas.Grind.{same_number_lists}
-use Rattle.std.proofs.lemmas.List.{length-replicate, get_or-replicate}
+use Rattle.std.proofs.lemmas.List.{get_or-replicate}
 use Rattle.wire_rules.specs.declared.Header.{Header}
 use Rattle.wire_rules.specs.Header.{no_header}
 

@@ -1,5 +1,5 @@
 -- A table as a result that has something to give, by the laws of the table's own result.
-use Rattle.std.proofs.Common.{◌≡◌, refl, eqb, ne_eqb, List, [], ◌∷◌, Bool, true, false, Ok, Err}
+use Rattle.std.proofs.Common.{◌≡◌, refl, eqb, ne_eqb, List, [], ◌∷◌, ◌++◌, Bool, true, false, Ok, Err}
 use lib.Dec.{T}
 use Rattle.lists.specs.Tables.{Row, choose, first, checked, NoneRefuses}
 use Rattle.lists.proofs.Tables.{none_says, numbered}
@@ -27,6 +27,16 @@ module _ {A B : Type 0} (b : B) where
       step : (t : Bool) → Err a ≡ choose t (Err x.says) (passing b rows) → (Err a ≡ passing b rows → Err a ≡ checked rows)
           → Err a ≡ choose t (Err x.says) (checked rows)
       step true p h = cc
+      step false p h = h p
+
+  -- where the first part of a table refuses, so does the table
+  pub stops_passing : (xs ys : List (Row A)) (a : A) → Err a ≡ passing b xs → Err a ≡ passing b (xs ++ ys)
+  stops_passing [] ys a e = absurd cc
+  stops_passing (x ∷ xs) ys a e = step x.refuses e (stops_passing xs ys a)
+    where
+      step : (t : Bool) → Err a ≡ choose t (Err x.says) (passing b xs) → (Err a ≡ passing b xs → Err a ≡ passing b (xs ++ ys))
+          → Err a ≡ choose t (Err x.says) (passing b (xs ++ ys))
+      step true p h = p
       step false p h = h p
 
 module _ {B : Type 0} (b : B) (rows : List (Row Made)) where

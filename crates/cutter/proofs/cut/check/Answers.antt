@@ -1,8 +1,11 @@
 -- Of the packet writer's rows only the room refuses.
-use Rattle.std.proofs.Common.{◌≡◌, ℕ, ◌+◌, ◌%◌, ◌<◌, ◌≤◌, Bool, false, ltb, List, length, Ok, Err, sym, refl, ap, ◌∙◌, le_of_eq, rules, le-ltb, lt-ltb, eq-eqb}
-use Rattle.lists.specs.Tables.{choose}
-use Rattle.answers.specs.declared.Made.TheVariants.{Room}
+use Rattle.std.proofs.Common.{◌≡◌, ℕ, ◌+◌, ◌%◌, ◌^◌, ◌<◌, ◌≤◌, Bool, false, ltb, List, ◌∷◌, length, Ok, Err, sym, refl, ap, ◌∙◌, le_of_eq, arith, rules, le-ltb, lt-ltb, eq-eqb}
+use Rattle.std.proofs.lemmas.Result.{err_from_is_err_and}
+use Rattle.lists.specs.Tables.{Row, row, choose, unlike}
+use Rattle.answers.specs.declared.Made.{Made}
+use Rattle.answers.specs.declared.Made.TheVariants.{Data, Number, Room}
 use Rattle.wire_rules.specs.declared.Header.{Header}
+use Rattle.wire_rules.specs.Names.{name_of}
 use Rattle.wire_rules.specs.Header.{data_size, header_size, data_most}
 use Rattle.wire_rules.specs.Write.{write_rows}
 use Rattle.wire_rules.proofs.Writing.{by_form}
@@ -14,9 +17,16 @@ use Rattle.cutter_rules.proofs.Scheduling.{divided}
 use Rattle.cutter_rules.proofs.Sizes.{never_big, packet_formed}
 use Rattle.cutter_rules.proofs.Exactly.{cut_by, number_by, count_few}
 use Rattle.writer.specs.Checks.{passing}
-use Rattle.writer.proofs.Passing.{passes_done, passes_rows}
+use Rattle.writer.proofs.Passing.{stops_passing, passes_done, passes_rows}
 use Rattle.cutter.specs.Checks.{form_rows}
 use Rattle.cutter.proofs.cut.check.Goals as goal
+
+-- the rows after the first
+abbrev other_rows : Header → List ℕ → ℕ → ℕ → List (Row Made)
+other_rows h track k room =
+    let s = cut_schedule h track in
+    let hk = packet_header h s k in
+    row Data (unlike (length track % record_bytes) 0) ∷ row Number (bad_number s (records_held track) k) ∷ write_rows hk (data_size hk) room
 
 module _ (h : Header) (sixteen : length h.name ≡ 16) (track : List ℕ) (k room n named : ℕ) (e : Ok named ≡ passing n (form_rows h))
     (full : length track % record_bytes ≡ 0) (held : ℕ) (p : held ≡ records_held track) (bad : Bool)
@@ -43,6 +53,9 @@ module _ (h : Header) (sixteen : length h.name ≡ 16) (track : List ℕ) (k roo
   few : s.count k ≤ largest_frames h.format h.channels
   few = count_few h track good_cut k good_number.below
 
+  small : header_size + size < 2 ^ 64
+  small = omega (arith, is_size, never_big h good_cut.formed s k few)
+
   only_room : let m = data_size (packet_header h s k) in
       passing n (write_rows (packet_header h s k) m room) ≡ choose (ltb room (header_size + m)) (Err Room) (Ok n)
   only_room =
@@ -59,6 +72,18 @@ module _ (h : Header) (sixteen : length h.name ≡ 16) (track : List ℕ) (k roo
 
   none_refuses : header_size + size ≤ room → Ok named ≡ passing n (cut_rows h track k room)
   none_refuses l = rw (by_room, le-ltb room (header_size + size) l) (ap Ok (passes_done n (form_rows h) named e).1)
+
+pub returns-in_err-named : goal.returns-in_err-named
+returns-in_err-named c =
+    let p = err_from_is_err_and c.from_residual.result c.from_residual.ensures.1 in
+    let h = c.args.h in
+    rw (p.1, p.2) (stops_passing (length (name_of h.name)) (form_rows h) (other_rows h c.args.track.now c.args.k c.args.room) _ (search rules))
+
+pub overflow_add-data_size : goal.overflow_add-data_size
+overflow_add-data_size c =
+    let l = small c.args.h (search rules) c.args.track.now c.args.k c.args.room _ _ c.in_ok-named.ensures c.if-track-ne0.false _ c.held-frames.ensures
+    _ c.bad_number.ensures c.if-bad_number.false _ c.packet_header-hk.ensures _ c.data_size.ensures in
+    record { fits = l }
 
 pub returns-then-room-data_size : goal.returns-then-room-data_size
 returns-then-room-data_size c =
