@@ -113,6 +113,11 @@ pub fn take_out(
         1 => ones(track, first, frames, out, at),
         2 => pairs(track, first, frames, out, at),
         8 => full(track, first, frames, out, at),
+        // Of a literal count of channels the compiler narrows several samples at once.
+        4 => taken::some::<Signed16>(track, first, frames, 4, out, at),
+        5 => taken::some::<Signed16>(track, first, frames, 5, out, at),
+        6 => taken::some::<Signed16>(track, first, frames, 6, out, at),
+        7 => taken::some::<Signed16>(track, first, frames, 7, out, at),
         _ => taken::some::<Signed16>(track, first, frames, channels, out, at),
     }
 }
