@@ -6,7 +6,7 @@ ghost use Rattle.formats.specs.Formats.{signed16, size_of};
 ghost use Rattle.lists.specs.Lists.{put};
 ghost use Rattle.lists.specs.Little.{bytes_of};
 ghost use Rattle.track_rules.specs.Records.{record_bytes, taken_of};
-ghost use Rattle.records.specs.Frames.{sent_at, frame_out, frames_out, run_out};
+ghost use Rattle.records.specs.Frames.{frame_out, frames_out, run_out, CanTake};
 
 use records::taken;
 use samples::slots::Signed16;
@@ -34,7 +34,7 @@ fn pair(track: &[u8], at: usize, c: usize) -> u32
 
 // Two channels: a frame is a word.
 fn pairs(track: &[u8], first: usize, frames: usize, out: &mut [u8], at: usize)
-    requires { ((first + frames) * record_bytes ≤ length track.now) × (at + frames * (2 * size_of signed16) ≤ length out.old) }
+    requires { CanTake signed16 track.now first frames 2 out.old at }
     ensures { out.new ≡ put out.old at (taken_of signed16 track.now first frames 2) }
 {
     for k in 0..frames {
@@ -58,7 +58,7 @@ fn two_frames(track: &[u8], at: usize) -> u32
 
 // Two frames a turn, and the one that may be left.
 fn ones(track: &[u8], first: usize, frames: usize, out: &mut [u8], at: usize)
-    requires { ((first + frames) * record_bytes ≤ length track.now) × (at + frames * (1 * size_of signed16) ≤ length out.old) }
+    requires { CanTake signed16 track.now first frames 1 out.old at }
     ensures { out.new ≡ put out.old at (taken_of signed16 track.now first frames 1) }
 {
     let count = frames / 2;
@@ -88,7 +88,7 @@ fn full_frame(track: &[u8], at: usize, out: &mut [u8])
 }
 
 fn full(track: &[u8], first: usize, frames: usize, out: &mut [u8], at: usize)
-    requires { ((first + frames) * record_bytes ≤ length track.now) × (at + frames * (8 * size_of signed16) ≤ length out.old) }
+    requires { CanTake signed16 track.now first frames 8 out.old at }
     ensures { out.new ≡ put out.old at (taken_of signed16 track.now first frames 8) }
 {
     for k in 0..frames {
@@ -106,13 +106,18 @@ pub fn take_out(
     out: &mut [u8],
     at: usize,
 )
-    requires { (channels ≤ 8) × ((first + frames) * record_bytes ≤ length track.now) × (at + frames * (channels * size_of signed16) ≤ length out.old) }
+    requires { CanTake signed16 track.now first frames channels out.old at }
     ensures { out.new ≡ put out.old at (taken_of signed16 track.now first frames channels) }
 {
     match channels {
         1 => ones(track, first, frames, out, at),
         2 => pairs(track, first, frames, out, at),
         8 => full(track, first, frames, out, at),
+        // Of a literal count of channels the compiler narrows several samples at once.
+        4 => taken::some::<Signed16>(track, first, frames, 4, out, at),
+        5 => taken::some::<Signed16>(track, first, frames, 5, out, at),
+        6 => taken::some::<Signed16>(track, first, frames, 6, out, at),
+        7 => taken::some::<Signed16>(track, first, frames, 7, out, at),
         _ => taken::some::<Signed16>(track, first, frames, channels, out, at),
     }
 }

@@ -1,10 +1,11 @@
 // Taking signed samples of 24 bits out.
 #![tactic(auto)]
 
-ghost use Rattle.std.specs.Prelude.{◌≡◌, ◌+◌, ◌*◌, ◌<◌, ◌≤◌, length, take, drop};
-ghost use Rattle.formats.specs.Formats.{signed24, size_of};
+ghost use Rattle.std.specs.Prelude.{◌≡◌, ◌+◌, ◌*◌, ◌≤◌, length, take, drop};
+ghost use Rattle.formats.specs.Formats.{signed24};
 ghost use Rattle.lists.specs.Lists.{put};
-ghost use Rattle.track_rules.specs.Records.{record_bytes, taken_of};
+ghost use Rattle.track_rules.specs.Records.{taken_of};
+ghost use Rattle.records.specs.Frames.{CanTake};
 
 use records::taken;
 use samples::slots::{Sample, Signed24};
@@ -29,7 +30,7 @@ fn store(track: &[u8], from: usize, channels: usize, out: &mut [u8], at: usize)
 // One channel or two: four frames a turn, each by one store that is longer than a frame. What it writes too much the next one writes
 // over, so the last frames are written by themselves. Called with a literal count, the tests on it fold away.
 fn few(track: &[u8], first: usize, frames: usize, channels: usize, out: &mut [u8], at: usize)
-    requires { (1 ≤ channels) × (channels ≤ 2) × ((first + frames) * record_bytes ≤ length track.now) × (at + frames * (channels * size_of signed24) ≤ length out.old) }
+    requires { (1 ≤ channels) × (channels ≤ 2) × CanTake signed24 track.now first frames channels out.old at }
     ensures { out.new ≡ put out.old at (taken_of signed24 track.now first frames channels) }
 {
     if frames == 0 {
@@ -58,7 +59,7 @@ fn few(track: &[u8], first: usize, frames: usize, channels: usize, out: &mut [u8
 
 // Eight channels of 24 bits are the record, byte for byte.
 fn full(track: &[u8], first: usize, frames: usize, out: &mut [u8], at: usize)
-    requires { ((first + frames) * record_bytes ≤ length track.now) × (at + frames * (8 * size_of signed24) ≤ length out.old) }
+    requires { CanTake signed24 track.now first frames 8 out.old at }
     ensures { out.new ≡ put out.old at (taken_of signed24 track.now first frames 8) }
 {
     words::copy(track, first * RECORD, frames * RECORD, out, at);
@@ -72,7 +73,7 @@ pub fn take_out(
     out: &mut [u8],
     at: usize,
 )
-    requires { (channels ≤ 8) × ((first + frames) * record_bytes ≤ length track.now) × (at + frames * (channels * size_of signed24) ≤ length out.old) }
+    requires { CanTake signed24 track.now first frames channels out.old at }
     ensures { out.new ≡ put out.old at (taken_of signed24 track.now first frames channels) }
 {
     match channels {

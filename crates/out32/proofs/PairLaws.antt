@@ -9,7 +9,7 @@ use borrow.Rule.Slice.PartMut.{put_mid}
 use Rattle.lists.specs.Lists.{byte, put, up_to}
 use Rattle.lists.specs.Little.{little, bytes_of}
 use Rattle.lists.proofs.Little.{little_below, little_joined, bytes_joined}
-use Rattle.lists.proofs.Lists.{one_more_times, put_more, lent, up_to_same, up_to_flat}
+use Rattle.lists.proofs.Lists.{put_more, lent, up_to_same, up_to_flat}
 use Rattle.formats.specs.declared.Format.{Format}
 use Rattle.formats.specs.Formats.{signed32, size_of}
 use Rattle.sample_rules.specs.Bits.{sent_of}
@@ -72,13 +72,6 @@ module _ (f : Format) (t : List ℕ) (s : ℕ) where
   side_by_side n =
       let e : n * 4 * 2 ≡ n * 8 = omega arith in
       flat 2 (n * 4) ∙ ap (frame_out f t s) e ∙ sym (flat 8 n)
-
--- what the first of some takes is within what all take
-pub all_but_first : (s step count l : ℕ) → 1 ≤ count → s + count * step ≤ l → (s + step ≤ l) × (s + step + (count - 1) * step ≤ l)
-all_but_first s step count l h m =
-    let n : count - 1 + 1 ≡ count = omega arith in
-    let e : count * step ≡ (count - 1) * step + step = ap (λ (x : ℕ). x * step) (sym n) ∙ one_more_times (count - 1) step in
-    (omega arith, omega arith)
 
 -- a pair, and the others after it
 frames_first : (f : Format) (t : List ℕ) (s step n channels : ℕ)

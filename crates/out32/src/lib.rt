@@ -1,12 +1,12 @@
 // Taking signed samples of 32 bits out.
 #![tactic(auto)]
 
-ghost use Rattle.std.specs.Prelude.{◌≡◌, ◌+◌, ◌*◌, ◌/◌, ◌%◌, ◌<◌, ◌≤◌, length};
+ghost use Rattle.std.specs.Prelude.{◌≡◌, ◌+◌, ◌*◌, ◌/◌, ◌%◌, ◌≤◌, length};
 ghost use Rattle.formats.specs.Formats.{signed32, size_of};
 ghost use Rattle.lists.specs.Lists.{put};
-ghost use Rattle.track_rules.specs.Records.{record_bytes, taken_of};
+ghost use Rattle.track_rules.specs.Records.{taken_of};
 ghost use Rattle.sample_rules.specs.Bits.{sent_of};
-ghost use Rattle.records.specs.Frames.{sent_at, frame_out, frames_out};
+ghost use Rattle.records.specs.Frames.{frames_out, CanTake};
 
 use records::taken;
 use samples::slots::{Sample, Signed32};
@@ -55,7 +55,7 @@ pub fn take_out(
     out: &mut [u8],
     at: usize,
 )
-    requires { (channels ≤ 8) × ((first + frames) * record_bytes ≤ length track.now) × (at + frames * (channels * size_of signed32) ≤ length out.old) }
+    requires { CanTake signed32 track.now first frames channels out.old at }
     ensures { out.new ≡ put out.old at (taken_of signed32 track.now first frames channels) }
 {
     if frames == 0 {

@@ -6,7 +6,7 @@ ghost use Rattle.formats.specs.Formats.{unsigned8, size_of};
 ghost use Rattle.lists.specs.Lists.{put};
 ghost use Rattle.lists.specs.Little.{bytes_of};
 ghost use Rattle.track_rules.specs.Records.{record_bytes, taken_of};
-ghost use Rattle.records.specs.Frames.{sent_at, frame_out, frames_out, run_out};
+ghost use Rattle.records.specs.Frames.{sent_at, frame_out, frames_out, run_out, CanTake};
 
 use records::taken;
 use samples::slots;
@@ -56,7 +56,7 @@ fn sixteen_frames(track: &[u8], at: usize, out: &mut [u8])
 // Sixteen frames a turn, and those that are left. Where a turn reads is bounded by the end, which it never reaches: the compiler would
 // else do four turns at once, no faster and with four times the code.
 fn ones(track: &[u8], first: usize, frames: usize, out: &mut [u8], at: usize)
-    requires { ((first + frames) * record_bytes ≤ length track.now) × (at + frames * (1 * size_of unsigned8) ≤ length out.old) }
+    requires { CanTake unsigned8 track.now first frames 1 out.old at }
     ensures { out.new ≡ put out.old at (taken_of unsigned8 track.now first frames 1) }
 {
     let count = frames / 16;
@@ -86,7 +86,7 @@ fn two_frames(track: &[u8], at: usize) -> u32
 
 // Two frames a turn, and the one that may be left.
 fn pairs(track: &[u8], first: usize, frames: usize, out: &mut [u8], at: usize)
-    requires { ((first + frames) * record_bytes ≤ length track.now) × (at + frames * (2 * size_of unsigned8) ≤ length out.old) }
+    requires { CanTake unsigned8 track.now first frames 2 out.old at }
     ensures { out.new ≡ put out.old at (taken_of unsigned8 track.now first frames 2) }
 {
     let count = frames / 2;
@@ -125,7 +125,7 @@ fn full_frame(track: &[u8], at: usize, out: &mut [u8])
 }
 
 fn full(track: &[u8], first: usize, frames: usize, out: &mut [u8], at: usize)
-    requires { ((first + frames) * record_bytes ≤ length track.now) × (at + frames * (8 * size_of unsigned8) ≤ length out.old) }
+    requires { CanTake unsigned8 track.now first frames 8 out.old at }
     ensures { out.new ≡ put out.old at (taken_of unsigned8 track.now first frames 8) }
 {
     for k in 0..frames {
@@ -143,7 +143,7 @@ pub fn take_out(
     out: &mut [u8],
     at: usize,
 )
-    requires { (channels ≤ 8) × ((first + frames) * record_bytes ≤ length track.now) × (at + frames * (channels * size_of unsigned8) ≤ length out.old) }
+    requires { CanTake unsigned8 track.now first frames channels out.old at }
     ensures { out.new ≡ put out.old at (taken_of unsigned8 track.now first frames channels) }
 {
     match channels {

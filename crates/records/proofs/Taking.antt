@@ -113,8 +113,3 @@ pub taken : (f : Format) (channels : ℕ) (t : List ℕ) (first frames : ℕ) (o
     → Taking f channels t (first * 24) 24 frames out₀ place out k → frames ≤ k → out ≡ put out₀ place (taken_of f t first frames channels)
 taken f channels t first frames out₀ place out k l h =
     take_end f channels t (first * 24) 24 frames out₀ place out k l h ∙ rw (taken_frames f t first frames channels)
-
--- a call for a count that is a literal, where the channels are that many
-pub taken_count : (f : Format) (t : List ℕ) (first frames channels n : ℕ) (out₀ out : List ℕ) (at : ℕ) → channels ≡ n
-    → out ≡ put out₀ at (taken_of f t first frames n) → out ≡ put out₀ at (taken_of f t first frames channels)
-taken_count f t first frames channels n out₀ out at e p = rw e p

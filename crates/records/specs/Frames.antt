@@ -1,11 +1,11 @@
 -- What the code's loops read and write in a turn. There is nothing to believe here.
-use Rattle.std.specs.Prelude.{ℕ, ◌+◌, ◌*◌, List}
+use Rattle.std.specs.Prelude.{ℕ, ◌+◌, ◌*◌, ◌≤◌, List, length}
 use Rattle.lists.specs.Lists.{up_to}
 use Rattle.lists.specs.Little.{little, bytes_of}
 use Rattle.formats.specs.declared.Format.{Format}
 use Rattle.formats.specs.Formats.{size_of}
 use Rattle.sample_rules.specs.Bits.{sent_of}
-use Rattle.track_rules.specs.Records.{slot_bytes}
+use Rattle.track_rules.specs.Records.{record_bytes, slot_bytes}
 
 -- four slots, given by their bits, as half a record
 unfoldable pub half_of : (ℕ → ℕ) → List ℕ
@@ -30,3 +30,8 @@ frames_out f t start step n channels = up_to n (λ k. frame_out f t (start + k *
 -- n of its channels from channel c on
 unfoldable pub run_out : Format → List ℕ → ℕ → ℕ → ℕ → List ℕ
 run_out f t at c n = up_to n (λ i. sent_bytes f t at (c + i))
+
+-- what taking frames out asks for: at most eight channels, the records there, and room for the frames
+abbrev pub CanTake : Format → List ℕ → ℕ → ℕ → ℕ → List ℕ → ℕ → Type 0
+CanTake f t first frames channels out at =
+    (channels ≤ 8) × ((first + frames) * record_bytes ≤ length t) × (at + frames * (channels * size_of f) ≤ length out)

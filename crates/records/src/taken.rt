@@ -3,7 +3,7 @@ ghost use Rattle.std.specs.Prelude.{◌≡◌, ◌+◌, ◌*◌, ◌^◌, ◌<�
 ghost use Rattle.formats.specs.Formats.{size_of};
 ghost use Rattle.lists.specs.Lists.{put};
 ghost use Rattle.track_rules.specs.Records.{record_bytes, taken_of};
-ghost use Rattle.records.specs.Frames.{sent_at, frame_out};
+ghost use Rattle.records.specs.Frames.{sent_at, frame_out, CanTake};
 
 use samples::slots::Sample;
 use track_rules::RECORD;
@@ -39,7 +39,7 @@ pub fn some<S: Sample>(
     out: &mut [u8],
     at: usize,
 )
-    requires { (channels ≤ 8) × ((first + frames) * record_bytes ≤ length track.now) × (at + frames * (channels * size_of S.format) ≤ length out.old) }
+    requires { CanTake S.format track.now first frames channels out.old at }
     ensures { out.new ≡ put out.old at (taken_of S.format track.now first frames channels) }
 {
     let step = channels * S::SIZE;

@@ -1,5 +1,4 @@
 -- Taken out by a copy.
-use borrow.Author.Rules.{rules}
 use Rattle.out24.proofs.Copying.{taken_whole}
 use Rattle.out24.proofs.full.Goals as goal
 

@@ -6,7 +6,7 @@ use Rattle.records.proofs.Taking.{take_start, take_next, taken}
 use Rattle.out8.proofs.full.Goals as goal
 
 pub loop-k-init : goal.loop-k-init
-loop-k-init c = take_start unsigned8 8 _ _ _ _ _ _ c.requires.1
+loop-k-init c = take_start unsigned8 8 _ _ _ _ _ _ c.requires.2
 
 pub loop-k-preserved : goal.loop-k-preserved
 loop-k-preserved c =
