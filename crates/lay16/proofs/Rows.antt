@@ -1,10 +1,9 @@
 -- Samples that stand in a row in words of four bytes, and the row as records.
-use mathlib.Core.Path.{◌≡◌, refl, sym, ap, ◌∙◌}
-use mathlib.Core.List.{List, ◌∷◌, []}
-use Prim.Native.Nat.{ℕ, ◌+◌, ◌*◌, ◌/◌, ◌%◌, ◌^◌, ◌≤◌, ◌<◌}
-use native.Mathlib.Nat.{add-zero, add_assoc}
+use mathlib.Core.Path.{◌≡◌, sym, ap, ◌∙◌}
+use mathlib.Core.List.{List}
+use Prim.Native.Nat.{ℕ, ◌+◌, ◌*◌, ◌/◌, ◌%◌, ◌^◌, ◌<◌}
+use native.Mathlib.Nat.{add_assoc}
 use native.Mathlib.Omega.{arith}
-use lib.Dec.{lit<, lit≤}
 use Rattle.lists.specs.Lists.{byte, up_to}
 use Rattle.lists.specs.Little.{little, bytes_of}
 use Rattle.lists.proofs.Lists.{up_to_same, up_to_flat}
@@ -14,7 +13,6 @@ use Rattle.formats.specs.Formats.{signed16}
 use Rattle.sample_rules.specs.Bits.{slot_of}
 use Rattle.track_rules.specs.Records.{record_of, records_of, frame_slot, packet_slot}
 use Rattle.records.specs.Frames.{half_of}
-use Rattle.records.proofs.Laid.{heard, silent, framed}
 use Rattle.lay16.specs.Rows.{in_row}
 
 module _ (d : List ℕ) (from : ℕ) where
@@ -23,29 +21,6 @@ module _ (d : List ℕ) (from : ℕ) where
       → r ≡ slot_of signed16 (v / 256 ^ m % 65536) → r ≡ in_row d from c
   in_word below b m k v r c e i s =
       s ∙ ap (slot_of signed16) (rw (e, i, ← add_assoc from b m) (little_middle m 2 k d (from + b) below))
-
-  -- frame i of one channel, and of two
-  pub one_channel : (i r : ℕ) → r ≡ in_row d from i → record_of (byte (r ∷ 0 ∷ 0 ∷ 0 ∷ 0 ∷ 0 ∷ 0 ∷ 0 ∷ [])) ≡ record_of (packet_slot signed16 d from 1 i)
-  unfolding packet_slot
-  one_channel i r e =
-      let b = from + i * 2 in
-      let none : (c : ℕ) → 1 ≤ c → 0 ≡ frame_slot signed16 d b 1 c = silent signed16 d b 1 in
-      framed (frame_slot signed16 d b 1) _ r 0 0 0 0 0 0 0 refl
-      (heard signed16 d b 1 0 _ _ r (lit< tt) refl refl (e ∙ rw (add-zero b)))
-      (none 1 (lit≤ tt)) (none 2 (lit≤ tt)) (none 3 (lit≤ tt)) (none 4 (lit≤ tt)) (none 5 (lit≤ tt)) (none 6 (lit≤ tt)) (none 7 (lit≤ tt))
-
-  pub two_channels : (i r s : ℕ) → r ≡ in_row d from (i * 2) → s ≡ in_row d from (i * 2 + 1)
-      → record_of (byte (r ∷ s ∷ 0 ∷ 0 ∷ 0 ∷ 0 ∷ 0 ∷ 0 ∷ [])) ≡ record_of (packet_slot signed16 d from 2 i)
-  unfolding packet_slot
-  two_channels i r s e f =
-      let b = from + i * 4 in
-      let none : (c : ℕ) → 2 ≤ c → 0 ≡ frame_slot signed16 d b 2 c = silent signed16 d b 2 in
-      let p : from + i * 2 * 2 ≡ b + 0 = omega arith in
-      let q : from + (i * 2 + 1) * 2 ≡ b + 2 = omega arith in
-      framed (frame_slot signed16 d b 2) _ r s 0 0 0 0 0 0 refl
-      (heard signed16 d b 2 0 _ _ r (lit< tt) refl refl (e ∙ ap (λ (x : ℕ). slot_of signed16 (little 2 d x)) p))
-      (heard signed16 d b 2 1 _ _ s (lit< tt) refl refl (f ∙ ap (λ (x : ℕ). slot_of signed16 (little 2 d x)) q))
-      (none 2 (lit≤ tt)) (none 3 (lit≤ tt)) (none 4 (lit≤ tt)) (none 5 (lit≤ tt)) (none 6 (lit≤ tt)) (none 7 (lit≤ tt))
 
   -- a row as slots, four a turn, and as frames of eight channels
   abbrev one : ℕ → List ℕ

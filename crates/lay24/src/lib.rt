@@ -1,7 +1,7 @@
 // Laying signed samples of 24 bits.
 #![tactic(auto)]
 
-ghost use Rattle.std.specs.Prelude.{◌≡◌, ◌+◌, ◌*◌, ◌<◌, ◌≤◌, length};
+ghost use Rattle.std.specs.Prelude.{◌≡◌, ◌+◌, ◌*◌, ◌≤◌, length};
 ghost use Rattle.formats.specs.Formats.{signed24, size_of};
 ghost use Rattle.track_rules.specs.Records.{record_bytes, record_of, laid_of, frame_slot, packet_slot};
 ghost use Rattle.records.specs.Room.{HasRoom};
@@ -49,9 +49,9 @@ pub fn lay(d: &[u8], from: usize, frames: usize, channels: usize, track: &mut [u
     ensures { track.new ≡ laid_of track.old place frames (packet_slot signed24 d.now from channels) }
 {
     match channels {
-        1 => laying::some::<Signed24>(d, from, frames, 1, track, place),
+        1 => laying::lay::<Signed24>(d, from, frames, 1, track, place),
         2 => pairs(d, from, frames, track, place),
         8 => full(d, from, frames, track, place),
-        _ => laying::some::<Signed24>(d, from, frames, channels, track, place),
+        _ => laying::lay::<Signed24>(d, from, frames, channels, track, place),
     }
 }

@@ -67,9 +67,9 @@ pub fn lay(d: &[u8], from: usize, frames: usize, channels: usize, track: &mut [u
     ensures { track.new ≡ laid_of track.old place frames (packet_slot unsigned8 d.now from channels) }
 {
     match channels {
-        1 => laying::few::<Unsigned8>(d, from, frames, 1, track, place),
-        2 => laying::some::<Unsigned8>(d, from, frames, 2, track, place),
+        1 => laying::lay::<Unsigned8>(d, from, frames, 1, track, place),
+        2 => laying::lay::<Unsigned8>(d, from, frames, 2, track, place),
         8 => full(d, from, frames, track, place),
-        _ => laying::some::<Unsigned8>(d, from, frames, channels, track, place),
+        _ => laying::lay::<Unsigned8>(d, from, frames, channels, track, place),
     }
 }

@@ -1,4 +1,4 @@
-// Laying frames of a packet as records, over the type of their samples: what is the same for all types.
+// Laying a packet's frames sample by sample, over the type of the samples.
 #![tactic(auto)]
 
 ghost use Rattle.std.specs.Prelude.{◌≡◌, ◌+◌, ◌*◌, ◌<◌, ◌≤◌, length};
@@ -21,7 +21,7 @@ fn slot<S: Sample>(d: &[u8], from: usize, channels: usize, c: usize) -> u64
 }
 
 // All slots are read before any is stored: nothing tells the compiler that the slices are apart.
-pub fn frame<S: Sample>(d: &[u8], from: usize, channels: usize, out: &mut [u8])
+fn frame<S: Sample>(d: &[u8], from: usize, channels: usize, out: &mut [u8])
     requires { (channels ≤ 8) × (from + channels * size_of S.format ≤ length d.now) × (length out.old ≡ record_bytes) }
     ensures { out.new ≡ record_of (frame_slot S.format d.now from channels) }
 {
@@ -38,18 +38,8 @@ pub fn frame<S: Sample>(d: &[u8], from: usize, channels: usize, out: &mut [u8])
     );
 }
 
-// A frame, in its record.
-pub fn one<S: Sample>(d: &[u8], from: usize, channels: usize, track: &mut [u8], place: usize)
-    requires { HasRoom S.format d.now from 1 channels track.old place }
-    ensures { track.new ≡ laid_of track.old place 1 (packet_slot S.format d.now from channels) }
-{
-    let a = place * RECORD;
-    let e = a + RECORD;
-    frame::<S>(d, from, channels, &mut track[a..e]);
-}
-
 // A frame a turn. Called with a literal count, the tests on it fold away.
-pub fn some<S: Sample>(
+pub fn lay<S: Sample>(
     d: &[u8],
     from: usize,
     frames: usize,
@@ -62,42 +52,8 @@ pub fn some<S: Sample>(
 {
     let step = channels * S::SIZE;
     for k in 0..frames {
-        one::<S>(d, from + k * step, channels, track, place + k);
+        let a = (place + k) * RECORD;
+        let e = a + RECORD;
+        frame::<S>(d, from + k * step, channels, &mut track[a..e]);
     }
-}
-
-// The next two frames.
-fn two<S: Sample>(d: &[u8], from: usize, channels: usize, track: &mut [u8], place: usize)
-    requires { HasRoom S.format d.now from 2 channels track.old place }
-    ensures { track.new ≡ laid_of track.old place 2 (packet_slot S.format d.now from channels) }
-{
-    one::<S>(d, from, channels, track, place);
-    one::<S>(d, from + channels * S::SIZE, channels, track, place + 1);
-}
-
-// Two frames a turn, and the one that may be left.
-pub fn few<S: Sample>(
-    d: &[u8],
-    from: usize,
-    frames: usize,
-    channels: usize,
-    track: &mut [u8],
-    place: usize,
-)
-    requires { HasRoom S.format d.now from frames channels track.old place }
-    ensures { track.new ≡ laid_of track.old place frames (packet_slot S.format d.now from channels) }
-{
-    let step = channels * S::SIZE;
-    let count = frames / 2;
-    for k in 0..count {
-        two::<S>(d, from + k * 2 * step, channels, track, place + k * 2);
-    }
-    some::<S>(
-        d,
-        from + count * 2 * step,
-        frames % 2,
-        channels,
-        track,
-        place + count * 2,
-    );
 }

@@ -1,9 +1,0 @@
--- Two frames a turn, and the one that may be left.
-use Prim.Native.Nat.{◌*◌}
-use Rattle.formats.specs.Formats.{signed16}
-use Rattle.track_rules.specs.Records.{packet_slot}
-use Rattle.records.proofs.Laid.{Laying}
-use Rattle.lay16.proofs.few.Given as goal
-
-abbrev pub invariant-loop-k : goal.invariant-loop-k
-invariant-loop-k l = Laying (packet_slot signed16 l.d l.from l.channels) l.frames l.initial.track l.place l.track (l.k * 2)
