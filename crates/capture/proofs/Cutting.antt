@@ -1,22 +1,17 @@
 -- Writing one record: the packet with its address, its length and zeros around it.
 use mathlib.Core.Path.{◌≡◌, refl, sym, ap, ◌∙◌}
-use mathlib.Core.Bool.{false}
 use mathlib.Core.List.{List, ◌∷◌, ◌++◌, append-nil}
 use Prim.Native.Nat.{ℕ, zero, suc, ◌+◌, ◌-◌, ◌≤◌}
 use native.Mathlib.Nat.{le_of_eq, not-suc-le-zero, le_of_suc-le-suc}
 use native.Mathlib.Omega.{arith}
-use lib.Dec.{eqb}
 use lib.ListN.{length, take, drop, replicate, length-append, length-drop, length-replicate, take-append-drop, drop_of_length-le}
 use lib.Seq.{take_at, drop_at, take_all, length-take-le}
-use borrow.Author.Tests.{ne_eqb}
 use borrow.Rule.Slice.PartMut.{put_mid}
 use Rattle.lists.specs.Lists.{put}
 use Rattle.lists.specs.Little.{bytes_of}
 use Rattle.lists.proofs.Lists.{lent, put_next}
 use Rattle.lists.proofs.Little.{bytes_length}
 use Rattle.answers.specs.declared.Made.TheVariants.{Done}
-use Rattle.answers.specs.Numbers.{number_made}
-use Rattle.answers.proofs.Numbers.{made_told}
 use Rattle.wire_rules.specs.declared.Header.{Header}
 use Rattle.cutter_rules.specs.declared.Cut.{Cut}
 use Rattle.cutter_rules.specs.Cut.{cut_answer, cut_of, cut_output}
@@ -24,6 +19,7 @@ use Rattle.cutter_rules.proofs.Exactly.{cut_answer_is, done_gives, refused_outpu
 use Rattle.cutter_rules.proofs.Packets.{cut_front}
 use Rattle.wire_rules.specs.Header.{datagram_most}
 use Rattle.capture_rules.specs.Records.{record_size, capture_record, cut_record}
+use Rattle.capture_rules.proofs.Reading.{cut_record_refused}
 
 -- ---- what stands around a datagram
 
@@ -94,34 +90,30 @@ module _ (h : Header) (track : List ℕ) (k address : ℕ) (out : List ℕ) (who
   answer_is : made.answer ≡ cut_answer h track k datagram_most
   answer_is = ap (λ (m : Cut). m.answer) e ∙ cut_answer_is h track k _ ∙ rw (part, room)
 
-  result_is : made ≡ cut_of h track k (drop 8 out)
-  result_is = e ∙ rw part
-
   written_is : ys ≡ cut_output h track k (drop 8 out)
   written_is = w ∙ rw part
 
   back : put_mid 8 datagram_most out ys ≡ take 8 out ++ ys
   back = rw (drop_of_length-le (drop 8 out) (le_of_eq room), append-nil)
 
-  module _ (n : ℕ) (q : n ≡ number_made made.answer) where
-    pub refused : (n ≡ 0 → ⊥) → (record { answer = made.answer; length = made.length } ≡ cut_of h track k (drop 8 out))
-        × (put_mid 8 datagram_most out ys ≡ cut_record h track k address out)
-    unfolding cut_record
-    refused z =
-        let other : cut_answer h track k (length (drop 8 out)) ≡ Done → ⊥ = λ d. z (q ∙ rw (answer_is, ← room, d)) in
-        let left : ys ≡ drop 8 out = written_is ∙ refused_output h track k (drop 8 out) _ refl other in
-        let f : eqb (number_made (cut_answer h track k datagram_most)) 0 ≡ false = rw (← answer_is, ← q) (ne_eqb n 0 z) in
-        (result_is, back ∙ rw (left, f) (take-append-drop 8 out))
+  pub result_is : made ≡ cut_of h track k (drop 8 out)
+  result_is = e ∙ rw part
 
-    pub recorded : (after : List ℕ) → n ≡ 0 → length h.name ≡ 16 → after ≡ capture_record address (take made.length (drop 8 (put_mid 8 datagram_most out ys)))
-        → (record { answer = made.answer; length = made.length } ≡ cut_of h track k (drop 8 out)) × (after ≡ cut_record h track k address out)
-    unfolding cut_record
-    recorded after z sixteen p =
-        let d : cut_answer h track k datagram_most ≡ Done = sym answer_is ∙ made_told made.answer Done (sym q ∙ z) in
-        let done : cut_answer h track k (length (drop 8 out)) ≡ Done = rw room d in
-        let long : made.length ≡ _ = ap (λ (m : Cut). m.length) (result_is ∙ done_gives h track k (drop 8 out) _ refl done) in
-        let eight : length (take 8 out) ≡ 8 = length-take-le 8 out (omega (arith, whole)) in
-        (result_is, p ∙ rw (back, drop_at (take 8 out) ys 8 eight, written_is, long, cut_front h sixteen track k (drop 8 out) done, d))
+  pub refused : (made.answer ≡ Done → ⊥) → put_mid 8 datagram_most out ys ≡ cut_record h track k address out
+  refused z =
+      let other : cut_answer h track k datagram_most ≡ Done → ⊥ = λ d. z (answer_is ∙ d) in
+      let left : ys ≡ drop 8 out = written_is ∙ refused_output h track k (drop 8 out) _ refl (rw room other) in
+      back ∙ rw left (take-append-drop 8 out) ∙ sym (cut_record_refused h track k address out other)
+
+  pub recorded : (after : List ℕ) → made.answer ≡ Done → length h.name ≡ 16 → after ≡ capture_record address (take made.length (drop 8 (put_mid 8 datagram_most out ys)))
+      → after ≡ cut_record h track k address out
+  unfolding cut_record
+  recorded after a sixteen p =
+      let d : cut_answer h track k datagram_most ≡ Done = sym answer_is ∙ a in
+      let done : cut_answer h track k (length (drop 8 out)) ≡ Done = rw room d in
+      let long : made.length ≡ _ = ap (λ (m : Cut). m.length) (result_is ∙ done_gives h track k (drop 8 out) _ refl done) in
+      let eight : length (take 8 out) ≡ 8 = length-take-le 8 out (omega (arith, whole)) in
+      p ∙ rw (back, drop_at (take 8 out) ys 8 eight, written_is, long, cut_front h sixteen track k (drop 8 out) done, d)
 
   pub fits : length h.name ≡ 16 → length ys ≡ length (take datagram_most (drop 8 out))
       → (made.length ≤ datagram_most) × (length (put_mid 8 datagram_most out ys) ≡ record_size)

@@ -2,20 +2,27 @@
 #![tactic(auto)]
 
 ghost use Rattle.std.specs.Prelude.{◌≡◌, ◌≤◌, length as list_length, take, drop};
-ghost use Rattle.take_rules.specs.Follow.{followed_track};
-ghost use Rattle.take_rules.specs.Tally.{tally_of, tallied_of};
+ghost use Rattle.take_rules.specs.Follow.{followed_of, followed_track};
+ghost use Rattle.take_rules.specs.Tally.{tallied_of};
 ghost use Rattle.cutter_rules.specs.Cut.{cut_of};
-ghost use Rattle.lent.specs.Counted.{counted_of};
 ghost use Rattle.wire_rules.specs.Header.{datagram_most};
 ghost use Rattle.capture_rules.specs.Records.{record_size, address_of, length_of, datagram_of, capture_record, cut_record};
 
 pub mod jobs;
 
+use answers::Made;
 use capture_rules::RECORD;
 use cutter_rules::Cut;
-use lent::Counted;
-use take_rules::Take;
+use take_rules::{Followed, Take, Tally};
 use wire_rules::{Header, LONGEST};
+
+// What a program takes by one call of the system: a block of so many records.
+pub const RECORDS: usize = 44;
+
+pub const BLOCK: usize = RECORDS * RECORD;
+
+// The programs' tracks: 2,048 frames.
+pub const TRACK: usize = 2048 * track_rules::RECORD;
 
 // The sender's address, of a record or of a job file.
 pub fn address(heard: &[u8]) -> u32
@@ -31,20 +38,20 @@ fn stated(heard: &[u8]) -> u32
     words::at4(heard, 4)
 }
 
-// One record into the take, as following a datagram of the length that the record states.
-pub fn follow(take: Take, counts: [u32; 17], heard: &[u8], track: &mut [u8]) -> Counted
-    requires { list_length heard.now ≡ record_size }
-    ensures answer { result ≡ counted_of (tallied_of take (tally_of counts) (address_of heard.now) (datagram_of heard.now) track.old) }
+// One record into the take, as following a datagram of the length that the record states; one count of the lent tally is raised.
+pub fn follow(take: Take, tally: &mut Tally, heard: &[u8; RECORD], track: &mut [u8]) -> Followed
+    ensures answer { result ≡ followed_of take (address_of heard.now) (datagram_of heard.now) track.old }
+    ensures tally { tally.new ≡ (tallied_of take tally.old (address_of heard.now) (datagram_of heard.now) track.old).tally }
     ensures track { track.new ≡ followed_track take (address_of heard.now) (datagram_of heard.now) track.old }
 {
     let sender = address(heard);
     let length = stated(heard) as usize;
     // All datagrams over 1,464 bytes are answered alike, so the record itself, which is longer, stands for one.
     if length > LONGEST {
-        return lent::follow_counts(take, counts, sender, &heard[0..RECORD], track);
+        return lent::follow(take, tally, sender, heard, track);
     }
     let end = 8 + length;
-    lent::follow_counts(take, counts, sender, &heard[8..end], track)
+    lent::follow(take, tally, sender, &heard[8..end], track)
 }
 
 // The address, the length and the padding around a datagram that stands at byte 8.
@@ -66,11 +73,8 @@ pub fn cut(header: Header, track: &[u8], k: u32, address: u32, out: &mut [u8]) -
     ensures output { out.new ≡ cut_record header track.now k address out.old }
 {
     let made = recorder::cut(header, track, k, &mut out[8..RECORD]);
-    let answer = made.answer;
-    let length = made.length;
-    if answers::number_made(answer) != 0 {
-        return Cut { answer, length };
+    if made.answer == Made::Done {
+        surround(address, made.length, out);
     }
-    surround(address, length, out);
-    Cut { answer, length }
+    made
 }

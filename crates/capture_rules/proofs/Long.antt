@@ -35,7 +35,7 @@ module _ (t : Take) (address : ℕ) (d : List ℕ) (long : datagram_most < lengt
 
 -- two of them are followed alike
 module _ (t : Take) (address : ℕ) (d e : List ℕ) (long : datagram_most < length d) (as_long : datagram_most < length e) (track : List ℕ) where
-  long_followed : followed_of t address d track ≡ followed_of t address e track
+  pub long_followed : followed_of t address d track ≡ followed_of t address e track
   long_followed =
       follow_refused t address d track (refused t address d long _)
       ∙ rw (long_answered t address d long (records_held track), ← long_answered t address e as_long (records_held track))

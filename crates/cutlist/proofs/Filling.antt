@@ -1,22 +1,17 @@
 -- The loop of `fill`: a record a turn, until a packet is refused or the block is full.
-use mathlib.Core.Path.{◌≡◌, refl, sym, ap, ◌∙◌}
-use mathlib.Core.Bool.{false}
+use mathlib.Core.Path.{◌≡◌, refl, sym, ap, subst, ◌∙◌}
 use mathlib.Core.List.{List}
 use Prim.Native.Nat.{ℕ, ◌+◌, ◌-◌, ◌*◌, ◌≤◌, ◌<◌, zero-le}
-use native.Mathlib.Nat.{zero-add, add-sub_cancel_left, not-suc-le-zero}
+use native.Mathlib.Nat.{zero-add, add-sub_cancel_left, not-suc-le-zero, le_antisymm}
 use native.Mathlib.Omega.{arith}
 use native.Mathlib.Numerals.{add-one}
-use lib.Dec.{eqb}
 use lib.ListN.{length, take, drop, length-append, length-drop, take-append-drop}
 use lib.Seq.{length-take-le}
 use borrow.Author.Count.{below_more}
-use borrow.Author.Tests.{ne_eqb}
 use borrow.Rule.Slice.PartMut.{put_mid}
 use Rattle.lists.specs.Lists.{put, up_to}
 use Rattle.lists.proofs.Lists.{put_none, put_more, put_length, lent}
 use Rattle.answers.specs.declared.Made.TheVariants.{Done}
-use Rattle.answers.specs.Numbers.{number_made}
-use Rattle.answers.proofs.Numbers.{made_told}
 use Rattle.wire_rules.specs.declared.Header.{Header}
 use Rattle.cutter_rules.specs.declared.Cut.{Cut}
 use Rattle.cutter_rules.specs.Cut.{cut_answer, cut_of, cut_packet}
@@ -24,6 +19,7 @@ use Rattle.cutter_rules.proofs.Exactly.{cut_answer_is}
 use Rattle.wire_rules.specs.Header.{datagram_most}
 use Rattle.capture_rules.specs.Records.{record_size, capture_record, cut_record}
 use Rattle.capture_rules.proofs.Lengths.{cut_length}
+use Rattle.capture_rules.proofs.Reading.{cut_record_refused}
 use Rattle.cutlist.specs.Block.{records, Filled}
 
 -- a part that comes back as it was lent leaves the list
@@ -48,14 +44,16 @@ module _ (h : Header) (track : List ℕ) (address k : ℕ) (block₀ : List ℕ)
   start = record { turns = zero-le; cut_all = λ j l. absurd (not-suc-le-zero l); long = refl; same = whole; so_far = put_none block₀ 0 }
 
   module _ (block : List ℕ) (n : ℕ) (l : Filling h track address k block₀ block n) where
-    pub full : 44 ≤ n → Filled h track address k 44 block₀ block n
-    full g = record { no_more = l.turns; cut_all = l.cut_all; stops = λ m. omega arith; written = l.so_far }
+    pub full : 44 ≤ n → Filled h track address k 44 block₀ block 44
+    full g =
+        let whole_block : Filled h track address k 44 block₀ block n =
+        record { no_more = l.turns; cut_all = l.cut_all; stops = λ m. omega arith; written = l.so_far } in
+        subst (Filled h track address k 44 block₀ block) (le_antisymm l.turns g) whole_block
 
     -- a turn: the record's place is lent, and comes back as ys
     module _ (g : n < 44) (made : Cut) (ys : List ℕ)
         (e : made ≡ cut_of h track (k + n) (drop 8 (part_of block n)))
-        (w : ys ≡ cut_record h track (k + n) address (part_of block n))
-        (r : ℕ) (q : r ≡ number_made made.answer) where
+        (w : ys ≡ cut_record h track (k + n) address (part_of block n)) where
       size : n * record_size + record_size - n * record_size ≡ record_size
       size = add-sub_cancel_left (n * record_size) record_size
 
@@ -64,19 +62,18 @@ module _ (h : Header) (track : List ℕ) (address k : ℕ) (block₀ : List ℕ)
           let m : record_size ≤ length (drop (n * record_size) block) = rw length-drop (omega (arith, l.same)) in
           rw (length-drop 8 (part_of block n), size, length-take-le record_size (drop (n * record_size) block) m)
 
-      answer_is : r ≡ number_made (cut_answer h track (k + n) datagram_most)
-      answer_is = q ∙ ap (λ (m : Cut). number_made m.answer) e ∙ rw (cut_answer_is h track (k + n) _, room)
+      answer_is : made.answer ≡ cut_answer h track (k + n) datagram_most
+      answer_is = ap (λ (m : Cut). m.answer) e ∙ rw (cut_answer_is h track (k + n) _, room)
 
-      pub stop : (r ≡ 0 → ⊥) → Filled h track address k 44 block₀ (put_mid (n * record_size) (n * record_size + record_size - n * record_size) block ys) n
-      unfolding cut_record
+      pub stop : (made.answer ≡ Done → ⊥) → Filled h track address k 44 block₀ (put_mid (n * record_size) (n * record_size + record_size - n * record_size) block ys) n
       stop z =
-          let f : eqb (number_made (cut_answer h track (k + n) datagram_most)) 0 ≡ false = rw (← answer_is) (ne_eqb r 0 z) in
-          let b = unwritten block ys (n * record_size) (n * record_size + record_size - n * record_size) (w ∙ rw f) in
-          record { no_more = l.turns; cut_all = l.cut_all; stops = λ m d. z (answer_is ∙ ap number_made d); written = b ∙ l.so_far }
+          let other : cut_answer h track (k + n) datagram_most ≡ Done → ⊥ = λ d. z (answer_is ∙ d) in
+          let b = unwritten block ys (n * record_size) (n * record_size + record_size - n * record_size) (w ∙ cut_record_refused h track (k + n) address _ other) in
+          record { no_more = l.turns; cut_all = l.cut_all; stops = λ m. other; written = b ∙ l.so_far }
 
-      module _ (z : r ≡ 0) (sixteen : length h.name ≡ 16) where
+      module _ (z : made.answer ≡ Done) (sixteen : length h.name ≡ 16) where
         done : cut_answer h track (k + n) datagram_most ≡ Done
-        done = made_told _ Done (sym answer_is ∙ z)
+        done = sym answer_is ∙ z
 
         record_is : ys ≡ capture_record address (cut_packet h track (k + n))
         unfolding cut_record

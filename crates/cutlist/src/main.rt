@@ -1,89 +1,105 @@
 // Cuts the track on standard input by the header in `cut.bin`, and writes the packets to `cut.cap` as a capture.
 #![tactic(auto)]
 
-ghost use Rattle.std.specs.Prelude.{◌≡◌, length as list_length};
-
-use answers::Made;
+use answers::{Answer, Made};
+use arrayvec::ArrayString;
+use capture::{BLOCK, RECORDS, TRACK};
 use capture_rules::RECORD;
+use files::{Output, Said};
 use std::fs::File;
 use wire_rules::Header;
 
 mod block;
 
-// The number of a refusal alone.
-fn print_number(rt: &HostRuntime, answer: Made) {
-    let mut text = [0u8; 21];
-    let length = lines::field(answers::number_made(answer) as u64, b'\n', &mut text, 0);
-    files::print(rt, &text[..length]);
+// Why no capture is written, or not all of it.
+#[derive(Drop)]
+enum Stop {
+    NoHeader,
+    Refused(Made),
+    Failed(Said),
+}
+
+impl From<Said> for Stop {
+    fn from(said: Said) -> Stop {
+        Stop::Failed(said)
+    }
+}
+
+// What `cut.bin` holds.
+#[derive(Clone, Copy)]
+struct Job {
+    header: Header,
+    address: u32,
+}
+
+fn load(rt: &HostRuntime) -> Option<Job> {
+    let mut bytes = [0u8; 33];
+    let n = files::load(rt, "cut.bin", &mut bytes).ok()?;
+    let job = bytes[..n].as_array::<32>()?;
+    let read = capture::jobs::header(job);
+    if read.answer != Answer::Accepted {
+        return None;
+    }
+    Some(Job {
+        header: read.header,
+        address: capture::address(job),
+    })
 }
 
 // Blocks of records until all packets are written. A track of 2,048 frames has no more than 2,048.
 fn write_packets(
     rt: &HostRuntime,
-    header: Header,
-    address: u32,
+    job: Job,
     track: &[u8],
-    block: &mut [u8],
-    file: &mut File,
-)
-    requires { list_length block.old ≡ 64768 }
-{
-    let mut k = 0;
-    while k < 2048 {
-        let n = block::fill(header, track, k, address, block);
-        let end = n * RECORD;
-        if !files::append(rt, file, b"cut.cap", &block[..end]) {
-            return;
+    file: &mut Output<'_, File>,
+) -> Result<(), Said> {
+    let mut block = [0u8; BLOCK];
+    for k in (0..2048).step_by(RECORDS) {
+        let n = block::fill(job.header, track, k, job.address, &mut block);
+        file.append(rt, &block[..n * RECORD])?;
+        if n < RECORDS {
+            break;
         }
-        if n < 44 {
-            return;
-        }
-        k += 44;
     }
+    Ok(())
 }
 
-fn write_capture(rt: &HostRuntime, header: Header, address: u32, track: &[u8]) {
+// The whole capture; where its first packet is refused, no file is written.
+fn write_capture(rt: &HostRuntime, job: Job, track: &[u8]) -> Result<(), Stop> {
     let mut record = [0u8; RECORD];
-    let first = capture::cut(header, track, 0, address, &mut record);
-    let answer = first.answer;
-    if answers::number_made(answer) != 0 {
-        print_number(rt, answer);
-        return;
+    let first = capture::cut(job.header, track, 0, job.address, &mut record);
+    if first.answer != Made::Done {
+        return Err(Stop::Refused(first.answer));
     }
-    let Some(mut file) = files::begin(rt, b"cut.cap") else {
-        return;
-    };
-    let mut block = [0u8; 64768];
-    write_packets(rt, header, address, track, &mut block, &mut file);
-    files::finish(rt, file, b"cut.cap");
+    let mut file = Output::begin(rt, "cut.cap")?;
+    let written = write_packets(rt, job, track, &mut file);
+    file.finish(rt);
+    Ok(written?)
+}
+
+fn cut_all(rt: &HostRuntime) -> Result<(), Stop> {
+    let job = load(rt).ok_or(Stop::NoHeader)?;
+    let mut track = [0u8; TRACK + 1];
+    let length = files::input(rt, &mut track);
+    if length > TRACK {
+        return Err(Stop::Refused(Made::Number));
+    }
+    files::input_end(rt)?;
+    write_capture(rt, job, &track[..length])
+}
+
+// The number of a refusal alone.
+fn print_number(rt: &HostRuntime, answer: Made) {
+    let mut text = ArrayString::<21>::new();
+    lines::number(u64::from(u8::from(answer)), &mut text);
+    text.push('\n');
+    files::print(rt, text.as_str().as_bytes());
 }
 
 fn main(rt: HostRuntime) {
-    let mut job = [0u8; 33];
-    let n = files::load(&rt, b"cut.bin", &mut job);
-    if n != 32 {
-        files::print(&rt, b"no header\n");
-        return;
+    match cut_all(&rt) {
+        Err(Stop::NoHeader) => files::print(&rt, b"no header\n"),
+        Err(Stop::Refused(answer)) => print_number(&rt, answer),
+        Ok(()) | Err(Stop::Failed(_)) => {}
     }
-    let read = capture::jobs::header(&job[..n]);
-    let answer = read.answer;
-    if answers::number(answer) != 0 {
-        files::print(&rt, b"no header\n");
-        return;
-    }
-    let mut track = [0u8; 49153];
-    let length = files::input(&rt, &mut track);
-    if length > 49152 {
-        print_number(&rt, Made::Number);
-        return;
-    }
-    if files::is_input_broken(&rt) {
-        return;
-    }
-    write_capture(
-        &rt,
-        read.header,
-        capture::address(&job[..n]),
-        &track[..length],
-    );
 }

@@ -7,32 +7,21 @@ ghost use Rattle.io.specs.Counts.{IsPrefixLen};
 use std::fs::OpenFile;
 use std::io::{Error, ErrorKind, Read, Result, Write};
 use std::rt::Files;
-use std::{fs, str};
+use std::{fs, result};
 
-// Says on standard error what failed and why.
-fn fail<R: Eprint>(rt: &R, what: &[u8], error: Error) {
-    let said = match str::from_utf8(what) {
-        Ok(text) => eprintln!(rt; "{text}: {error}"),
-        Err(_) => eprintln!(rt; "{}: {error}", what.escape_ascii()),
-    };
-    // Where standard error fails too, nobody is left to be told.
-    let _ = said;
-}
+// An operation failed, and that was said on standard error.
+#[derive(Clone, Copy)]
+pub struct Said;
 
-// A path as text: a file is opened by no other.
-fn path_text(path: &[u8]) -> Result<&str> {
-    match str::from_utf8(path) {
-        Ok(text) => Ok(text),
-        Err(_) => Err(Error::new(ErrorKind::InvalidInput, "the path is not UTF-8")),
+// What came of an operation. Where it failed, what failed and why is said on standard error; where that fails too, nobody is left to be told.
+fn told<R: Eprint, T>(rt: &R, what: &str, came: Result<T>) -> result::Result<T, Said> {
+    match came {
+        Ok(value) => Ok(value),
+        Err(error) => {
+            let _ = eprintln!(rt; "{what}: {error}");
+            Err(Said)
+        }
     }
-}
-
-fn open<R: Files>(rt: &R, path: &[u8]) -> Result<R::File> {
-    fs::open(rt, path_text(path)?)
-}
-
-fn create<R: Files>(rt: &R, path: &[u8]) -> Result<R::File> {
-    fs::create(rt, path_text(path)?)
 }
 
 // One read, made again where a signal interrupts it.
@@ -55,22 +44,19 @@ fn fill<S: Read>(source: &mut S, out: &mut [u8]) -> usize
     let mut done = 0;
     while done < out.len() {
         match read(source, &mut out[done..]) {
-            Ok(0) => break,
+            Ok(0) | Err(_) => break,
             Ok(n) => done += n,
-            Err(_) => break,
         }
     }
     done
 }
 
-// The bytes of a file, as many as fit; none where it can't be read.
-pub fn load<R: Files>(rt: &R, path: &[u8], out: &mut [u8]) -> usize
-    ensures { IsPrefixLen result out.new }
+// The bytes of a file, as many as fit.
+pub fn load<R: Files>(rt: &R, path: &str, out: &mut [u8]) -> Result<usize>
+    ensures { IfOk result (λ n. IsPrefixLen n out.new) }
 {
-    match open(rt, path) {
-        Ok(mut file) => fill(&mut file, out),
-        Err(_) => 0,
-    }
+    let mut file = fs::open(rt, path)?;
+    Ok(fill(&mut file, out))
 }
 
 // Standard input, until `out` is full or no more comes.
@@ -80,53 +66,44 @@ pub fn input<R: Input>(rt: &R, out: &mut [u8]) -> usize
     fill(&mut rt.reader(), out)
 }
 
-// Whether standard input stopped because it can't be read, which is then said. One read more tells that from its end.
-pub fn is_input_broken<R: Input + Eprint>(rt: &R) -> bool {
+// Whether standard input stopped at its end, and not because it can't be read. One read more tells that.
+pub fn input_end<R: Input + Eprint>(rt: &R) -> result::Result<(), Said> {
     let mut byte = [0u8; 1];
-    match read(&mut rt.reader(), &mut byte) {
-        Ok(_) => false,
-        Err(error) => {
-            fail(rt, b"standard input", error);
-            true
-        }
-    }
+    told(rt, "standard input", read(&mut rt.reader(), &mut byte))?;
+    Ok(())
 }
 
 // Text on standard output.
 pub fn print<R: Print + Eprint>(rt: &R, text: &[u8]) {
-    if let Err(error) = rt.write_all(text) {
-        fail(rt, b"standard output", error);
-    }
+    let _ = told(rt, "standard output", rt.write_all(text));
 }
 
-// A file to write, empty; none where it can't be written, which is then said.
-pub fn begin<R: Files + Eprint>(rt: &R, path: &[u8]) -> Option<R::File> {
-    match create(rt, path) {
-        Ok(file) => Some(file),
-        Err(error) => {
-            fail(rt, path, error);
-            None
+// A file that is written, by its path.
+#[derive(Drop)]
+pub struct Output<'a, F> {
+    file: F,
+    path: &'a str,
+}
+
+impl<'a, F: OpenFile + Write + Drop> Output<'a, F> {
+    // It is empty at first.
+    pub fn begin<R: Files<File = F> + Eprint>(rt: &R, path: &'a str) -> result::Result<Self, Said> {
+        let file = told(rt, path, fs::create(rt, path))?;
+        Ok(Output { file, path })
+    }
+
+    pub fn append<R: Eprint>(&mut self, rt: &R, bytes: &[u8]) -> result::Result<(), Said> {
+        told(rt, self.path, self.file.write_all(bytes))
+    }
+
+    // What a system writes late can fail here. It is waited for, since closing tells no failure.
+    pub fn finish<R: Eprint>(self, rt: &R) {
+        match self.file.sync_all() {
+            // A pipe or a device has nothing that is written late.
+            Err(error) if error.kind() == ErrorKind::InvalidInput => {}
+            synced => {
+                let _ = told(rt, self.path, synced);
+            }
         }
-    }
-}
-
-// More of that file; false where it can't be written, which is then said.
-pub fn append<R: Files + Eprint>(rt: &R, file: &mut R::File, path: &[u8], bytes: &[u8]) -> bool {
-    match file.write_all(bytes) {
-        Ok(()) => true,
-        Err(error) => {
-            fail(rt, path, error);
-            false
-        }
-    }
-}
-
-// The end of that file. What a system writes late can fail here, which is then said. It is waited for, since closing tells no failure.
-pub fn finish<R: Files + Eprint>(rt: &R, file: R::File, path: &[u8]) {
-    match file.sync_all() {
-        Ok(()) => {}
-        // A pipe or a device has nothing that is written late.
-        Err(error) if error.kind() == ErrorKind::InvalidInput => {}
-        Err(error) => fail(rt, path, error),
     }
 }

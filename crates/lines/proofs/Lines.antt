@@ -1,18 +1,17 @@
 -- Laws of decimal numbers, and of texts written one after the other.
-use mathlib.Core.Path.{◌≡◌, refl, sym, ap, ◌∙◌}
-use mathlib.Core.List.{List, [], ◌∷◌, ◌++◌}
-use Prim.Native.Nat.{ℕ, zero, suc, ◌+◌, ◌-◌, ◌/◌, ◌^◌, ◌<◌, ◌≤◌}
+use mathlib.Core.Path.{◌≡◌, refl, ◌∙◌}
+use mathlib.Core.List.{List, [], ◌∷◌, ◌++◌, append_assoc}
+use Prim.Native.Nat.{ℕ, zero, suc, ◌+◌, ◌-◌, ◌/◌, ◌%◌, ◌^◌, ◌<◌, ◌≤◌}
 use native.Mathlib.Nat.{pow-le-pow_right, le_antisymm}
-use native.Mathlib.Numerals.{sub-one, add-one}
+use native.Mathlib.Numerals.{sub-one}
 use native.Mathlib.Omega.{arith}
 use native.Mathlib.Decide.{dec_lt}
-use lib.ListN.{length, length-append, set}
-use lib.Seq.{set_split, drop-drop}
+use lib.ListN.{length, length-append}
 use borrow.Author.Tests.{lt-ltb, le-ltb}
-use Rattle.io.specs.Digits.{last_digits, IsDigitCount}
-use Rattle.lists.specs.Lists.{put}
-use Rattle.lists.proofs.Lists.{put_more, put_length}
-use Rattle.lines.specs.Lines.{places, places_of, decimal_of}
+use Rattle.std.specs.Fmt.{decimal}
+use Rattle.std.proofs.lemmas.Fmt.{decimal_by_steps}
+use Rattle.io.specs.Digits.{hex_digit_ascii, last_digits, IsDigitCount}
+use Rattle.lines.specs.Lines.{places, places_of, decimal_of, field_of, line_of}
 
 -- ---- how many digits
 
@@ -52,28 +51,42 @@ pub decimal_length : (n : ℕ) → length (decimal_of n) ≡ places_of n
 unfolding decimal_of
 decimal_length n = digits_length 10 (places_of n) n
 
--- the fewest digits that hold n are its text
-pub decimal_digits : (n k : ℕ) → n < 10 ^ 20 → IsDigitCount 10 1 n k → (last_digits 10 k n ≡ decimal_of n) × (k ≡ length (decimal_of n))
+-- ---- std's text of a number is the same
+
+digit_is : (n : ℕ) → hex_digit_ascii (n % 10) ≡ 48 + n % 10
+digit_is n = let h : n % 10 < 10 = omega arith in rw (lt-ltb (n % 10) 10 h)
+
+one_digit : (n : ℕ) → n < 10 → (48 + n) ∷ [] ≡ decimal_of n
 unfolding decimal_of
-decimal_digits n k h f =
-    let e : k ≡ places_of n = fewest_one n k (places_of n) f (decimal_fewest n h) in
-    (rw e, e ∙ sym (decimal_length n))
+one_digit n h =
+    let p : places_of n ≡ 1 = fewest_one n (places_of n) 1 (decimal_fewest n (omega arith)) (omega arith, h, λ l. absurd (omega arith)) in
+    let e : n % 10 ≡ n = omega arith in
+    rw (p, digit_is n, e)
 
--- ---- one text after another
+-- a digit more
+count_more : (n k : ℕ) → 10 ≤ n → IsDigitCount 10 1 (n / 10) k → IsDigitCount 10 1 n (suc k)
+count_more n zero low f = absurd (omega (arith, f.0))
+count_more n (suc zero) low f = (omega arith, omega (arith, f.1), λ _. low)
+count_more n (suc (suc k)) low f =
+    let u : 10 ^ suc k ≤ n / 10 = rw sub-one at (f.2 (omega arith)) in
+    let v : 10 ^ suc (suc k) ≤ n = omega (arith, u) in
+    (omega arith, omega (arith, f.1), λ _. rw sub-one v)
 
--- o is d with s written over it from at, and e, at most room past at, is where s ends: what each function here ensures
-abbrev pub Wrote : List ℕ → ℕ → List ℕ → ℕ → List ℕ → ℕ → Type 0
-Wrote d at s room o e = (o ≡ put d at s) × ((e ≡ at + length s) × (e ≤ at + room))
+digit_more : (n : ℕ) (ds : List ℕ) → 10 ≤ n → n < 10 ^ 20 → ds ≡ decimal_of (n / 10) → ds ++ ((48 + n % 10) ∷ []) ≡ decimal_of n
+unfolding decimal_of
+digit_more n ds low h e =
+    let p : places_of n ≡ suc (places_of (n / 10)) =
+    fewest_one n (places_of n) (suc (places_of (n / 10))) (decimal_fewest n h) (count_more n (places_of (n / 10)) low (decimal_fewest (n / 10) (omega arith))) in
+    rw (p, digit_is n, e)
 
--- t written where s ended is s and t written
-pub joined : (d s o t p : List ℕ) (at m a k b : ℕ) → at ≤ length d → Wrote d at s m o a → Wrote o a t k p b → Wrote d at (s ++ t) (m + k) p b
-joined d s o t p at m a k b h (e, (l, w)) (f, (n, v)) =
-    (f ∙ rw (e, l) (put_more d s t at h), (n ∙ rw (l, length-append s t) (omega arith), omega arith))
+pub decimal_same : (n : ℕ) → n < 2 ^ 64 → decimal n ≡ decimal_of n
+decimal_same n h =
+    decimal_by_steps (λ k ds. k < 10 ^ 20 → ds ≡ decimal_of k) (λ k l _. one_digit k l)
+    (λ k ds low e l. digit_more k ds low l (e (omega arith))) n h (omega (arith, h))
 
--- one byte stored where s ended
-pub stored_one : (d s o : List ℕ) (at m a v : ℕ) → at + m < length d → Wrote d at s m o a → Wrote d at (s ++ (v ∷ [])) (m + 1) (set o a v) (a + 1)
-unfolding put
-stored_one d s o at m a v h w =
-    let l : length o ≡ length d = ap length w.0 ∙ put_length d s at (omega arith) in
-    let e : set o a v ≡ put o a (v ∷ []) = set_split o a v (omega arith) ∙ rw (drop-drop 1 a o, add-one) in
-    joined d s o (v ∷ []) (set o a v) at m a 1 (a + 1) (omega arith) w (e, (refl, omega arith))
+-- five fields, one after the other, are the line; `a`, `f` and `s` are numbers as they were widened
+pub line_is : (index answer place frames skipped a f s : ℕ) (b₀ b₁ b₂ b₃ b₄ b₅ : List ℕ) → a ≡ answer → f ≡ frames → s ≡ skipped
+    → b₁ ≡ b₀ ++ field_of index 32 → b₂ ≡ b₁ ++ field_of a 32 → b₃ ≡ b₂ ++ field_of place 32 → b₄ ≡ b₃ ++ field_of f 32 → b₅ ≡ b₄ ++ field_of s 10
+    → b₅ ≡ b₀ ++ line_of index answer place frames skipped
+unfolding line_of
+line_is index answer place frames skipped a f s b₀ b₁ b₂ b₃ b₄ b₅ p q r e₁ e₂ e₃ e₄ e₅ = e₅ ∙ rw (e₄, e₃, e₂, e₁, p, q, r) (simp append_assoc)

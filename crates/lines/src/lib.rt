@@ -1,54 +1,47 @@
-// The lines that the programs print, written into a lent slice. Each function returns the index past what it wrote.
+// The lines that the programs print, each written after what a text of fixed room holds.
 #![tactic(auto)]
 
-ghost use Rattle.std.specs.Prelude.{◌≡◌, ◌+◌, ◌≤◌, length};
-ghost use Rattle.lists.specs.Lists.{put};
+ghost use Rattle.std.specs.Prelude.{◌≡◌, ◌+◌, ◌<◌, ◌≤◌, ◌++◌};
+ghost use Rattle.arrayvec.specs.ArrayString.{array_string_len};
+ghost use Rattle.answers.specs.Numbers.{number_of};
 ghost use Rattle.lines.specs.Lines.{decimal_of, field_of, line_of, line_room};
 
-// A number in decimal, over `out` from `at`.
-fn number(n: u64, out: &mut [u8], at: usize) -> usize
-    requires { at + 20 ≤ length out.old }
-    ensures out_after { out.new ≡ put out.old at (decimal_of n) }
-    ensures value { result ≡ at + length (decimal_of n) }
-    ensures upper_bound { result ≤ at + 20 }
+use arrayvec::ArrayString;
+use itoa::Buffer;
+use take_rules::Told;
+
+// Room for any line.
+pub const ROOM: usize = 105;
+
+// A number in decimal.
+pub fn number<const CAP: usize>(n: u64, out: &mut ArrayString<CAP>)
+    requires { array_string_len out.old + 20 ≤ CAP }
+    ensures text { out.new.bytes ≡ out.old.bytes ++ decimal_of n }
+    ensures within { array_string_len out.new ≤ array_string_len out.old + 20 }
 {
-    let mut text = [0u8; 20];
-    let k = io::decimal(n, &mut text);
-    let e = at + k;
-    out[at..e].copy_from_slice(&text[..k]);
-    e
+    out.push_str(Buffer::new().format(n));
 }
 
-// A number and the byte after it: a space, or a line feed.
-pub fn field(n: u64, after: u8, out: &mut [u8], at: usize) -> usize
-    requires { at + 21 ≤ length out.old }
-    ensures text { out.new ≡ put out.old at (field_of n after) }
-    ensures end { result ≡ at + length (field_of n after) }
-    ensures within { result ≤ at + 21 }
+// A number and the character after it: a space, or a line feed.
+fn field<const CAP: usize>(n: u64, after: char, out: &mut ArrayString<CAP>)
+    requires room { array_string_len out.old + 21 ≤ CAP }
+    requires ascii { after < 128 }
+    ensures text { out.new.bytes ≡ out.old.bytes ++ field_of n after }
+    ensures within { array_string_len out.new ≤ array_string_len out.old + 21 }
 {
-    let e = number(n, out, at);
-    out[e] = after;
-    e + 1
+    number(n, out);
+    out.push(after);
 }
 
-// The line of one capture record.
-pub fn line(
-    index: u64,
-    answer: u8,
-    place: usize,
-    frames: u16,
-    skipped: u32,
-    out: &mut [u8],
-    at: usize,
-) -> usize
-    requires { at + line_room ≤ length out.old }
-    ensures text { out.new ≡ put out.old at (line_of index answer place frames skipped) }
-    ensures end { result ≡ at + length (line_of index answer place frames skipped) }
-    ensures within { result ≤ at + line_room }
+// The line of what is told of a capture record.
+pub fn line<const CAP: usize>(index: u64, told: Told, out: &mut ArrayString<CAP>)
+    requires { array_string_len out.old + line_room ≤ CAP }
+    ensures text { out.new.bytes ≡ out.old.bytes ++ line_of index (number_of told.answer) told.place told.frames told.skipped }
+    ensures within { array_string_len out.new ≤ array_string_len out.old + line_room }
 {
-    let a = field(index, b' ', out, at);
-    let b = field(answer as u64, b' ', out, a);
-    let c = field(place as u64, b' ', out, b);
-    let d = field(frames as u64, b' ', out, c);
-    field(skipped as u64, b'\n', out, d)
+    field(index, ' ', out);
+    field(u64::from(u8::from(told.answer)), ' ', out);
+    field(told.place as u64, ' ', out);
+    field(u64::from(told.frames), ' ', out);
+    field(u64::from(told.skipped), '\n', out);
 }

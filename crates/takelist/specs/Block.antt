@@ -1,15 +1,14 @@
 -- What takelist prints (document 01, "Bench table"): one line a capture record.
 use Rattle.std.specs.Prelude.{ℕ, ◌+◌, List, [], ◌∷◌, ◌++◌}
 use Rattle.answers.specs.Numbers.{number_of}
-use Rattle.take_rules.specs.declared.Take.{Take}
 use Rattle.take_rules.specs.declared.Told.{Told}
-use Rattle.take_rules.specs.Tally.{tally_of}
 use Rattle.take_rules.specs.Box.{Box}
 use Rattle.lines.specs.Lines.{line_of}
+use Rattle.takelist.specs.declared.block.Follower.{Follower}
 
--- the box, as it is kept beside its track
-abbrev pub box_of : Take → List ℕ → List ℕ → Box
-box_of take counts track = record { take = take; tally = tally_of counts; track = track }
+-- the box, of what is kept beside its track
+abbrev pub box_of : Follower → List ℕ → Box
+box_of f track = record { take = f.take; tally = f.tally; track = track }
 
 -- the line of what is told of a record with an index: index, answer, place, frames, skipped
 abbrev pub answer_line : ℕ → Told → List ℕ

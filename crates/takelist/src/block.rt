@@ -1,83 +1,57 @@
 // A block of whole records, and their lines.
-ghost use Rattle.std.specs.Prelude.{◌≡◌, ◌+◌, ◌*◌, ◌^◌, ◌≤◌, ◌<◌, length as list_length};
-ghost use Rattle.lists.specs.Lists.{put};
+ghost use Rattle.std.specs.Prelude.{◌≡◌, ◌+◌, ◌*◌, ◌^◌, ◌≤◌, ◌<◌, ◌++◌};
+ghost use Rattle.arrayvec.specs.ArrayString.{array_string_len};
 ghost use Rattle.take_rules.specs.Box.{tells_of, follows};
-ghost use Rattle.capture_rules.specs.Records.{record_size};
 ghost use Rattle.capture_rules.specs.Fold.{event_of, answers_in, whole_records, captured};
 ghost use Rattle.lines.specs.Lines.{line_room};
 ghost use Rattle.takelist.specs.Block.{box_of, answer_line, lines_of};
 
+use arrayvec::ArrayString;
 use capture_rules::RECORD;
-use take_rules::Take;
+use take_rules::{Take, Tally};
 
-// What is kept from one record to the next, and how far the lines go.
+// What is kept from one record to the next, beside the track.
 #[derive(Clone, Copy)]
-pub struct Kept {
+pub struct Follower {
     pub take: Take,
-    pub counts: [u32; 17],
-    pub length: usize,
+    pub tally: Tally,
 }
 
-// One record, and its line after those that stand in `lines`.
-fn follow_one(before: Kept, index: u64, heard: &[u8], lines: &mut [u8], track: &mut [u8]) -> Kept
-    requires { (list_length heard.now ≡ record_size) × (before.length + line_room ≤ list_length lines.old) }
-    ensures state { box_of result.take result.counts track.new ≡ follows (box_of before.take before.counts track.old) (event_of heard.now) }
-    ensures text { lines.new ≡ put lines.old before.length (answer_line index (tells_of (box_of before.take before.counts track.old) (event_of heard.now))) }
-    ensures far { result.length ≡ before.length + list_length (answer_line index (tells_of (box_of before.take before.counts track.old) (event_of heard.now))) }
-    ensures near { result.length ≤ before.length + line_room }
-{
-    let take = before.take;
-    let counts = before.counts;
-    let counted = capture::follow(take, counts, heard, track);
-    let followed = counted.followed;
-    let told = followed.told;
-    let answer = told.answer;
-    let length = lines::line(
-        index,
-        answers::number(answer),
-        told.place,
-        told.frames,
-        told.skipped,
-        lines,
-        before.length,
-    );
-    let take = followed.take;
-    let counts = counted.counts;
-    Kept {
-        take,
-        counts,
-        length,
+impl Follower {
+    // One record, which has an index in the capture, and its line.
+    fn record<const CAP: usize>(
+        &mut self,
+        index: u64,
+        heard: &[u8; RECORD],
+        lines: &mut ArrayString<CAP>,
+        track: &mut [u8],
+    )
+        requires { array_string_len lines.old + line_room ≤ CAP }
+        ensures state { box_of self.new track.new ≡ follows (box_of self.old track.old) (event_of heard.now) }
+        ensures text { lines.new.bytes ≡ lines.old.bytes ++ answer_line index (tells_of (box_of self.old track.old) (event_of heard.now)) }
+        ensures within { array_string_len lines.new ≤ array_string_len lines.old + line_room }
+    {
+        let followed = capture::follow(self.take, &mut self.tally, heard, track);
+        self.take = followed.take;
+        lines::line(index, followed.told, lines);
     }
-}
 
-// The whole records of a block, of which the first has an index in the capture.
-pub fn follow(
-    take: Take,
-    counts: [u32; 17],
-    index: u64,
-    block: &[u8],
-    lines: &mut [u8],
-    track: &mut [u8],
-) -> Kept
-    requires { (index < 2 ^ 63) × (whole_records block.now * line_room ≤ list_length lines.old) }
-    ensures state { box_of result.take result.counts track.new ≡ captured (box_of take counts track.old) block.now }
-    ensures text { lines.new ≡ put lines.old 0 (lines_of index (answers_in (box_of take counts track.old) block.now (whole_records block.now))) }
-    ensures far { result.length ≡ list_length (lines_of index (answers_in (box_of take counts track.old) block.now (whole_records block.now))) }
-    ensures near { result.length ≤ list_length lines.old }
-{
-    let n = block.len() / RECORD;
-    let mut kept = Kept {
-        take,
-        counts,
-        length: 0,
-    };
-    let mut i = 0;
-    while i < n {
-        let a = i * RECORD;
-        let e = a + RECORD;
-        let number = index + i as u64;
-        i += 1;
-        kept = follow_one(kept, number, &block[a..e], lines, track);
+    // The whole records of a block, of which the first has an index in the capture.
+    pub fn block<const CAP: usize>(
+        &mut self,
+        index: u64,
+        block: &[u8],
+        lines: &mut ArrayString<CAP>,
+        track: &mut [u8],
+    )
+        requires index { index < 2 ^ 63 }
+        requires room { array_string_len lines.old + whole_records block.now * line_room ≤ CAP }
+        ensures state { box_of self.new track.new ≡ captured (box_of self.old track.old) block.now }
+        ensures text { lines.new.bytes ≡ lines.old.bytes ++ lines_of index (answers_in (box_of self.old track.old) block.now (whole_records block.now)) }
+    {
+        let (records, _) = block.as_chunks::<RECORD>();
+        for (i, heard) in records.iter().enumerate() {
+            self.record(index + i as u64, heard, lines, track);
+        }
     }
-    kept
 }

@@ -1,29 +1,29 @@
 -- A refusal, or the packet and what stands around it.
-use mathlib.Core.Path.{◌≡◌}
-use lib.ListN.{length}
+use mathlib.Core.Path.{◌≡◌, sym, ◌∙◌}
 use borrow.Author.Rules.{rules}
-use Rattle.capture.proofs.Cutting.{refused, recorded, fits}
+use denote.Enum.Bare.{same_true, same_false}
+use Rattle.answers.specs.contracts.Made.{the_type}
+use Rattle.answers.specs.declared.Made.TheVariants.{Done}
+use Rattle.capture.proofs.Cutting.{result_is, refused, recorded, fits}
 use Rattle.capture.proofs.cut.Goals as goal
 
-pub returns-then-number_made-ne0 : goal.returns-then-number_made-ne0
-returns-then-number_made-ne0 c = let b = c in
-    let s = b in
-    let whole = refused s.args.header s.args.track.now s.args.k s.args.address s.args.out.now s.requires _ _ b.cut-made.ensures.answer b.cut-made.ensures.output
-    _ (search rules) c.if-number_made-ne0.true in record { answer = whole.0; output = whole.1 }
-
 pub surround-requires : goal.surround-requires
-surround-requires c =
-    let sixteen : length c.args.header.name ≡ 16 = search rules in
-    let b = c in
-    let s = b in
-    fits s.args.header s.args.track.now s.args.k s.args.address s.args.out.now s.requires _ _ b.cut-made.ensures.answer b.cut-made.ensures.output
-    (sixteen) (search rules)
+surround-requires c = fits _ _ _ c.args.address c.args.out.now (search rules) _ _ c.cut-made.ensures.answer c.cut-made.ensures.output (search rules) (search rules)
 
-pub returns : goal.returns
-returns c =
-    let sixteen : length c.args.header.name ≡ 16 = search rules in
-    let e = c in
-    let b = e in
-    let s = b in
-    let whole = recorded s.args.header s.args.track.now s.args.k s.args.address s.args.out.now s.requires _ _ b.cut-made.ensures.answer b.cut-made.ensures.output
-    _ (search rules) _ e.if-number_made-ne0.false (sixteen) c.surround.ensures in record { answer = whole.0; output = whole.1 }
+pub returns-then-eq : goal.returns-then-eq
+returns-then-eq c =
+    let done : c.cut-made.result.answer ≡ Done = same_true the_type (search rules) _ _ (sym c.eq.ensures ∙ c.if-eq.true) in
+    let e = c.cut-made.ensures in
+    record {
+      answer = result_is _ _ _ c.args.address c.args.out.now (search rules) _ _ e.answer e.output;
+      output = recorded _ _ _ _ c.args.out.now (search rules) _ _ e.answer e.output _ done (search rules) c.surround.ensures;
+    }
+
+pub returns-else-eq : goal.returns-else-eq
+returns-else-eq c =
+    let other : c.cut-made.result.answer ≡ Done → ⊥ = same_false the_type _ _ (sym c.eq.ensures ∙ c.if-eq.false) in
+    let e = c.cut-made.ensures in
+    record {
+      answer = result_is _ _ _ c.args.address c.args.out.now (search rules) _ _ e.answer e.output;
+      output = refused _ _ _ _ c.args.out.now (search rules) _ _ e.answer e.output other;
+    }
