@@ -78,9 +78,6 @@ module _ (a : Answer) (n : ℕ) (q : n ≡ number_of a) where
   pub accepts : n ≡ 0 → a ≡ Accepted
   accepts z = number_told a Accepted (sym q ∙ z)
 
-  pub refuses : (n ≡ 0 → ⊥) → a ≡ Accepted → ⊥
-  refuses z p = z (q ∙ ap number_of p)
-
 abbrev named_made : ℕ → Made
 named_made n = get_or (Done ∷ Form ∷ Big ∷ Data ∷ Room ∷ Number ∷ Done ∷ Sample ∷ []) (n - 19) Done
 

@@ -64,9 +64,6 @@ impl From<Answer> for u8 {
     }
 }
 
-// How many counts the house tally has.
-pub const COUNTS: usize = 17;
-
 // Where the count of an answer's number stands in the house tally; past its end where no count is kept for the number.
 pub fn count(number: u8) -> usize
     ensures { result ≡ count_of number }
@@ -88,16 +85,4 @@ impl From<Made> for u8 {
             Made::Sample => 26,
         }
     }
-}
-
-pub fn number(a: Answer) -> u8
-    ensures { result ≡ number_of a }
-{
-    u8::from(a)
-}
-
-pub fn number_made(m: Made) -> u8
-    ensures { result ≡ number_made m }
-{
-    u8::from(m)
 }

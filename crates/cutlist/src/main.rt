@@ -34,7 +34,7 @@ struct Job {
 
 fn load(rt: &HostRuntime) -> Option<Job> {
     let mut bytes = [0u8; 33];
-    let n = files::load(rt, "cut.bin", &mut bytes).ok()?;
+    let n = files::load(rt, b"cut.bin", &mut bytes).ok()?;
     let job = bytes[..n].as_array::<32>()?;
     let read = capture::jobs::header(job);
     if read.answer != Answer::Accepted {
@@ -71,7 +71,7 @@ fn write_capture(rt: &HostRuntime, job: Job, track: &[u8]) -> Result<(), Stop> {
     if first.answer != Made::Done {
         return Err(Stop::Refused(first.answer));
     }
-    let mut file = Output::begin(rt, "cut.cap")?;
+    let mut file = Output::begin(rt, b"cut.cap")?;
     let written = write_packets(rt, job, track, &mut file);
     file.finish(rt);
     Ok(written?)
@@ -91,8 +91,7 @@ fn cut_all(rt: &HostRuntime) -> Result<(), Stop> {
 // The number of a refusal alone.
 fn print_number(rt: &HostRuntime, answer: Made) {
     let mut text = ArrayString::<21>::new();
-    lines::number(u64::from(u8::from(answer)), &mut text);
-    text.push('\n');
+    lines::field(u64::from(u8::from(answer)), '\n', &mut text);
     files::print(rt, text.as_str().as_bytes());
 }
 

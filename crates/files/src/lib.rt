@@ -7,21 +7,36 @@ ghost use Rattle.io.specs.Counts.{IsPrefixLen};
 use std::fs::OpenFile;
 use std::io::{Error, ErrorKind, Read, Result, Write};
 use std::rt::Files;
-use std::{fs, result};
+use std::{fs, result, str};
 
 // An operation failed, and that was said on standard error.
 #[derive(Clone, Copy)]
 pub struct Said;
 
 // What came of an operation. Where it failed, what failed and why is said on standard error; where that fails too, nobody is left to be told.
-fn told<R: Eprint, T>(rt: &R, what: &str, came: Result<T>) -> result::Result<T, Said> {
+fn told<R: Eprint, T>(rt: &R, what: &[u8], came: Result<T>) -> result::Result<T, Said> {
     match came {
         Ok(value) => Ok(value),
         Err(error) => {
-            let _ = eprintln!(rt; "{what}: {error}");
+            let _ = match str::from_utf8(what) {
+                Ok(text) => eprintln!(rt; "{text}: {error}"),
+                Err(_) => eprintln!(rt; "{}: {error}", what.escape_ascii()),
+            };
             Err(Said)
         }
     }
+}
+
+// A path as text: a file is opened by no other.
+fn path_text(path: &[u8]) -> Result<&str> {
+    match str::from_utf8(path) {
+        Ok(text) => Ok(text),
+        Err(_) => Err(Error::new(ErrorKind::InvalidInput, "the path is not UTF-8")),
+    }
+}
+
+fn create<R: Files>(rt: &R, path: &[u8]) -> Result<R::File> {
+    fs::create(rt, path_text(path)?)
 }
 
 // One read, made again where a signal interrupts it.
@@ -52,10 +67,10 @@ fn fill<S: Read>(source: &mut S, out: &mut [u8]) -> usize
 }
 
 // The bytes of a file, as many as fit.
-pub fn load<R: Files>(rt: &R, path: &str, out: &mut [u8]) -> Result<usize>
+pub fn load<R: Files>(rt: &R, path: &[u8], out: &mut [u8]) -> Result<usize>
     ensures { IfOk result (λ n. IsPrefixLen n out.new) }
 {
-    let mut file = fs::open(rt, path)?;
+    let mut file = fs::open(rt, path_text(path)?)?;
     Ok(fill(&mut file, out))
 }
 
@@ -69,26 +84,26 @@ pub fn input<R: Input>(rt: &R, out: &mut [u8]) -> usize
 // Whether standard input stopped at its end, and not because it can't be read. One read more tells that.
 pub fn input_end<R: Input + Eprint>(rt: &R) -> result::Result<(), Said> {
     let mut byte = [0u8; 1];
-    told(rt, "standard input", read(&mut rt.reader(), &mut byte))?;
+    told(rt, b"standard input", read(&mut rt.reader(), &mut byte))?;
     Ok(())
 }
 
 // Text on standard output.
 pub fn print<R: Print + Eprint>(rt: &R, text: &[u8]) {
-    let _ = told(rt, "standard output", rt.write_all(text));
+    let _ = told(rt, b"standard output", rt.write_all(text));
 }
 
 // A file that is written, by its path.
 #[derive(Drop)]
 pub struct Output<'a, F> {
     file: F,
-    path: &'a str,
+    path: &'a [u8],
 }
 
 impl<'a, F: OpenFile + Write + Drop> Output<'a, F> {
     // It is empty at first.
-    pub fn begin<R: Files<File = F> + Eprint>(rt: &R, path: &'a str) -> result::Result<Self, Said> {
-        let file = told(rt, path, fs::create(rt, path))?;
+    pub fn begin<R: Files<File = F> + Eprint>(rt: &R, path: &'a [u8]) -> result::Result<Self, Said> {
+        let file = told(rt, path, create(rt, path))?;
         Ok(Output { file, path })
     }
 

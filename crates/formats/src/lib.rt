@@ -21,24 +21,15 @@ pub enum Format {
 }
 
 impl Integer {
-    // The bytes of a sample, for loops that are made for one type.
-    pub const UNSIGNED8_SIZE: usize = 1;
-
-    pub const SIGNED16_SIZE: usize = 2;
-
-    pub const SIGNED24_SIZE: usize = 3;
-
-    pub const SIGNED32_SIZE: usize = 4;
-
     // The bytes of a sample.
     pub fn size(self) -> usize
         ensures { result ≡ whole_size self }
     {
         match self {
-            Integer::Unsigned8 => Integer::UNSIGNED8_SIZE,
-            Integer::Signed16 => Integer::SIGNED16_SIZE,
-            Integer::Signed24 => Integer::SIGNED24_SIZE,
-            Integer::Signed32 => Integer::SIGNED32_SIZE,
+            Integer::Unsigned8 => 1,
+            Integer::Signed16 => 2,
+            Integer::Signed24 => 3,
+            Integer::Signed32 => 4,
         }
     }
 
@@ -118,12 +109,6 @@ impl Format {
     const LAST_SENT: u8 = 3;
 
     const LAST_CONVERTED: u8 = 3;
-
-    pub fn of_index(t: u8) -> Format
-        ensures { result ≡ format_of t }
-    {
-        Format::from(t)
-    }
 
     #[tactic(auto, unfolding(crate::specs::Formats::may_read))]
     pub fn may_read(t: u8) -> bool

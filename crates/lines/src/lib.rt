@@ -3,18 +3,16 @@
 
 ghost use Rattle.std.specs.Prelude.{◌≡◌, ◌+◌, ◌<◌, ◌≤◌, ◌++◌};
 ghost use Rattle.arrayvec.specs.ArrayString.{array_string_len};
-ghost use Rattle.answers.specs.Numbers.{number_of};
 ghost use Rattle.lines.specs.Lines.{decimal_of, field_of, line_of, line_room};
 
 use arrayvec::ArrayString;
 use itoa::Buffer;
-use take_rules::Told;
 
 // Room for any line.
 pub const ROOM: usize = 105;
 
 // A number in decimal.
-pub fn number<const CAP: usize>(n: u64, out: &mut ArrayString<CAP>)
+fn number<const CAP: usize>(n: u64, out: &mut ArrayString<CAP>)
     requires { array_string_len out.old + 20 ≤ CAP }
     ensures text { out.new.bytes ≡ out.old.bytes ++ decimal_of n }
     ensures within { array_string_len out.new ≤ array_string_len out.old + 20 }
@@ -23,7 +21,7 @@ pub fn number<const CAP: usize>(n: u64, out: &mut ArrayString<CAP>)
 }
 
 // A number and the character after it: a space, or a line feed.
-fn field<const CAP: usize>(n: u64, after: char, out: &mut ArrayString<CAP>)
+pub fn field<const CAP: usize>(n: u64, after: char, out: &mut ArrayString<CAP>)
     requires room { array_string_len out.old + 21 ≤ CAP }
     requires ascii { after < 128 }
     ensures text { out.new.bytes ≡ out.old.bytes ++ field_of n after }
@@ -33,15 +31,22 @@ fn field<const CAP: usize>(n: u64, after: char, out: &mut ArrayString<CAP>)
     out.push(after);
 }
 
-// The line of what is told of a capture record.
-pub fn line<const CAP: usize>(index: u64, told: Told, out: &mut ArrayString<CAP>)
+// The line of one capture record.
+pub fn line<const CAP: usize>(
+    index: u64,
+    answer: u8,
+    place: usize,
+    frames: u16,
+    skipped: u32,
+    out: &mut ArrayString<CAP>,
+)
     requires { array_string_len out.old + line_room ≤ CAP }
-    ensures text { out.new.bytes ≡ out.old.bytes ++ line_of index (number_of told.answer) told.place told.frames told.skipped }
+    ensures text { out.new.bytes ≡ out.old.bytes ++ line_of index answer place frames skipped }
     ensures within { array_string_len out.new ≤ array_string_len out.old + line_room }
 {
     field(index, ' ', out);
-    field(u64::from(u8::from(told.answer)), ' ', out);
-    field(told.place as u64, ' ', out);
-    field(u64::from(told.frames), ' ', out);
-    field(u64::from(told.skipped), '\n', out);
+    field(u64::from(answer), ' ', out);
+    field(place as u64, ' ', out);
+    field(u64::from(frames), ' ', out);
+    field(u64::from(skipped), '\n', out);
 }

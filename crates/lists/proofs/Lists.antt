@@ -116,10 +116,6 @@ pub lent : (xs ys : List ℕ) (a n : ℕ) → length ys ≡ n → put_mid a n xs
 unfolding put
 lent xs ys a n h = rw (← h)
 
--- a copy over a list as long is what was copied
-pub copied_whole : (d src : List ℕ) → length src ≡ length d → take (length src) src ++ drop (length src) d ≡ src
-copied_whole d src h = rw (take-length src, drop_of_length-le d (le_of_eq (sym h))) (append-nil src)
-
 -- ---- lists put together
 
 pub up_to_same : (n : ℕ) (f g : ℕ → List ℕ) → ((i : ℕ) → i < n → f i ≡ g i) → up_to n f ≡ up_to n g

@@ -62,32 +62,3 @@ next_set f n out₀ out k l v h p =
 pub end_whole : (w : ℕ) (f : ℕ → List ℕ) (n : ℕ) (out₀ out : List ℕ) (k : ℕ) → Pieces w f n out₀ 0 out k → length out₀ ≡ n * w → n ≤ k
     → out ≡ up_to n f
 end_whole w f n out₀ out k l e h = end w f n out₀ 0 out k l h ∙ put_whole out₀ (up_to n f) (e ∙ sym (up_to_length w f l.each n))
-
--- ---- pieces made of what stands at a place that goes on by step: the next is read at at and written at a
-
-pub record Walking (w : ℕ) (g : ℕ → List ℕ) (s step n : ℕ) (out₀ : List ℕ) (place : ℕ) (out : List ℕ) (k at a : ℕ) : Type 0 where
-  pub reads : at ≡ s + k * step
-  pub writes : a ≡ place + k * w
-  pub written : Pieces w (λ i. g (s + i * step)) n out₀ place out k
-
-module _ (w : ℕ) (g : ℕ → List ℕ) (each : (i : ℕ) → length (g i) ≡ w) (s step n : ℕ) (out₀ : List ℕ) (place : ℕ) where
-  pub walk_start : place + n * w ≤ length out₀ → Walking w g s step n out₀ place out₀ 0 s place
-  walk_start m = record {
-    reads = omega arith;
-    writes = omega arith;
-    written = start w (λ i. g (s + i * step)) (λ i. each (s + i * step)) n out₀ place m;
-  }
-
-module _ (w : ℕ) (g : ℕ → List ℕ) (s step n : ℕ) (out₀ : List ℕ) (place : ℕ) (out : List ℕ) (k at a : ℕ) (l : Walking w g s step n out₀ place out k at a) where
-  pub walk_there : k < n → a + w ≤ length out
-  walk_there h = there w _ n out₀ place out k l.written a h l.writes
-
-  pub walk_next : (ys : List ℕ) → k < n → ys ≡ g at → Walking w g s step n out₀ place (put_mid a (a + w - a) out ys) (k + 1) (at + step) (a + w)
-  walk_next ys h p = record {
-    reads = omega (arith, l.reads, one_more_times k step);
-    writes = omega (arith, l.writes, one_more_times k w);
-    written = next w _ n out₀ place out k l.written a ys h l.writes (p ∙ rw l.reads);
-  }
-
-  pub walk_end : n ≤ k → out ≡ put out₀ place (up_to n (λ i. g (s + i * step)))
-  walk_end h = end w _ n out₀ place out k l.written h

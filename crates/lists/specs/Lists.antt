@@ -14,11 +14,12 @@ unfoldable pub up_to : ℕ → (ℕ → List ℕ) → List ℕ
 up_to zero f = []
 up_to (suc n) f = up_to n f ++ f n
 
--- where v stands first, or the list's length
+-- one further on, but where the first is found
 unfoldable pub index_after : Bool → ℕ → ℕ
 index_after true i = 0
 index_after false i = suc i
 
+-- where v stands first, or the list's length
 unfoldable pub index_of : ℕ → List ℕ → ℕ
 index_of v [] = 0
 index_of v (x ∷ xs) = index_after (eqb x v) (index_of v xs)

@@ -1,8 +1,8 @@
-// What every layer uses: a byte of a slice, a count outside its range, the lesser of two. The definitions and laws beside it are in specs/
+// What every layer uses: a byte of a slice, a count outside its range. The definitions and laws beside it are in specs/
 // and proofs/.
 #![tactic(auto)]
 
-ghost use Rattle.std.specs.Prelude.{◌≡◌, min};
+ghost use Rattle.std.specs.Prelude.{◌≡◌};
 ghost use Rattle.lists.specs.Lists.{byte};
 ghost use Rattle.lists.specs.Tables.{outside};
 
@@ -18,10 +18,4 @@ pub fn is_outside(n: u16, top: u16) -> bool
     ensures { result ≡ outside top n }
 {
     !(1..=top).contains(&n)
-}
-
-pub fn at_most(n: usize, most: usize) -> usize
-    ensures { result ≡ min n most }
-{
-    n.min(most)
 }

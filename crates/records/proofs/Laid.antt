@@ -71,7 +71,3 @@ pub packet_sized : (f : Format) (d : List ℕ) (from frames channels : ℕ) (tra
     → Laying (packet_slot f d from channels) frames track₀ place (put_mid ((place + k) * 24) ((place + k) * 24 + 24 - (place + k) * 24) track ys) (k + 1)
 packet_sized f d from frames channels track₀ place track k l ys size h p z = packet_next f d from frames channels track₀ place track k l ys h (rw z at p)
 
--- ---- a call for a count that is a literal, where the channels are that many
-
-pub room_for : (from frames channels n s l : ℕ) → channels ≡ n → from + frames * (channels * s) ≤ l → from + frames * (n * s) ≤ l
-room_for from frames channels n s l e h = rw (← e) h

@@ -3,4 +3,3 @@ pub mod Laid
 pub mod Taking
 pub mod Turns
 pub mod Runs
-pub mod Groups

@@ -322,7 +322,7 @@ module _ (t : Take) (address : ℕ) (d track : List ℕ) where
   unfolding tallied_of followed_of
   follow_tallied tally = refl
 
--- an all_zero take answers 16
+-- an all-zero take answers 16
 pub all_zero : (address : ℕ) (d : List ℕ) (held : ℕ) → answer_of no_take address d held ≡ State
 unfolding answer_of
 all_zero address d held = rw (zeros_bad 16)
@@ -350,7 +350,7 @@ module _ (name : List ℕ) (address : ℕ) (short : length name ≤ 16) where
   open_refused_exactly =
       by_name (λ r. r.answer ≡ Name ↔ (GoodName name → ⊥)) (λ g. (λ e. absurd (name_refuses (sym e)), λ x. absurd (x g))) (λ g. (λ e. g, λ x. refl))
 
-  -- a refusal gives the all_zero take and leaves the track
+  -- a refusal gives the all-zero take and leaves the track
   pub open_refused : (GoodName name → ⊥) → (track : List ℕ)
       → (open_of name address ≡ record { answer = Name; take = no_take }) × (opened_track name track ≡ track)
   unfolding open_of opened_track

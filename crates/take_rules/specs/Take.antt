@@ -18,7 +18,7 @@ abbrev pub unbegun_for : Who → Take
 unbegun_for who =
     record { who = who; begun = false; shape = record { rate = 0; channels = 0; format = 0 }; line = record { n = 0; newest = 0; place = 0 } }
 
--- the all_zero take
+-- the all-zero take
 abbrev pub no_take : Take
 no_take = unbegun_for (record { name = replicate 16 0; address = 0 })
 
@@ -26,7 +26,7 @@ no_take = unbegun_for (record { name = replicate 16 0; address = 0 })
 abbrev pub unbegun : List ℕ → ℕ → Take
 unbegun name address = unbegun_for (record { name = kept_name name; address = address })
 
--- answer 4 for a bad name, with the all_zero take
+-- answer 4 for a bad name, with the all-zero take
 unfoldable pub open_of : List ℕ → ℕ → Opened
 open_of name address =
     choose (good_name name) (record { answer = Accepted; take = unbegun name address }) (record { answer = Name; take = no_take })

@@ -33,7 +33,15 @@ impl Follower {
     {
         let followed = capture::follow(self.take, &mut self.tally, heard, track);
         self.take = followed.take;
-        lines::line(index, followed.told, lines);
+        let told = followed.told;
+        lines::line(
+            index,
+            u8::from(told.answer),
+            told.place,
+            told.frames,
+            told.skipped,
+            lines,
+        );
     }
 
     // The whole records of a block, of which the first has an index in the capture.

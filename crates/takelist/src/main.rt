@@ -41,7 +41,7 @@ fn follow_all(rt: &HostRuntime, follower: &mut Follower, track: &mut [u8]) {
 
 // What fails is said, and the rest is still done.
 fn write_track(rt: &HostRuntime, track: &[u8]) {
-    let Ok(mut file) = Output::begin(rt, "track.bin") else {
+    let Ok(mut file) = Output::begin(rt, b"track.bin") else {
         return;
     };
     let _ = file.append(rt, track);
@@ -51,7 +51,7 @@ fn write_track(rt: &HostRuntime, track: &[u8]) {
 // What `wanted.bin` names, on a lent track; none where no stream can be meant.
 fn wanted(rt: &HostRuntime, track: &mut [u8]) -> Option<Follower> {
     let mut bytes = [0u8; 21];
-    let n = files::load(rt, "wanted.bin", &mut bytes).ok()?;
+    let n = files::load(rt, b"wanted.bin", &mut bytes).ok()?;
     let job = bytes[..n].as_array::<20>()?;
     let opened = capture::jobs::open(job, track);
     if opened.answer != Answer::Accepted {

@@ -7,8 +7,8 @@ use lib.Dec.{ltb, eqb, eqb-suc-zero}
 use borrow.Author.Tests.{ne_eqb, le-leb, lt-leb, ltb-true, ltb-false}
 use Rattle.lists.specs.Tables.{choose}
 use Rattle.lists.proofs.Tables.{by_test}
-use Rattle.wire_rules.specs.Names.{name_of, printable, good_name}
-use Rattle.wire_rules.proofs.Names.{name_nil, name_stop, name_go, printable_first}
+use Rattle.wire_rules.specs.Names.{name_of, printable, good_name, GoodName}
+use Rattle.wire_rules.proofs.Names.{name_nil, name_stop, name_go, printable_first, by_good}
 use Rattle.wire.specs.Measured.{measured, before_zero, character, characters_of}
 
 -- the bytes before the first zero are the name's
@@ -75,6 +75,11 @@ module _ (n : List ℕ) (k : ℕ) (e : k ≡ characters_of n) where
   pub broken : 0 < k → (get_or n k 0 ≡ 0 → ⊥) → None ≡ measured n
   unfolding measured
   broken h z = rw (good_by_characters, ne_eqb k 0 (λ q. omega arith), ne_eqb (get_or n k 0) 0 z)
+
+-- what is measured of a name that keeps the rule are its characters
+pub good_measured : (n : List ℕ) → GoodName n → measured n ≡ Some (length (name_of n))
+unfolding measured
+good_measured n g = rw (by_good n g)
 
 -- a name is good exactly where something is measured
 pub measured_good : (n : List ℕ) → is_some (measured n) ≡ good_name n
