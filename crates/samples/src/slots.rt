@@ -77,7 +77,7 @@ impl Sample for Unsigned8 {
     const SIZE: usize = 1;
 
     fn get(d: &[u8], a: usize) -> u32 {
-        words::get1(d, a)
+        words::get::<1>(d, a)
     }
 
     fn put(out: &mut [u8], u: u32) {
@@ -105,7 +105,7 @@ impl Sample for Signed16 {
     const SIZE: usize = 2;
 
     fn get(d: &[u8], a: usize) -> u32 {
-        words::get2(d, a)
+        words::get::<2>(d, a)
     }
 
     fn put(out: &mut [u8], u: u32) {
@@ -133,7 +133,7 @@ impl Sample for Signed24 {
     const SIZE: usize = 3;
 
     fn get(d: &[u8], a: usize) -> u32 {
-        words::get3(d, a)
+        words::get::<3>(d, a)
     }
 
     fn put(out: &mut [u8], u: u32) {
@@ -161,7 +161,7 @@ impl Sample for Signed32 {
     const SIZE: usize = 4;
 
     fn get(d: &[u8], a: usize) -> u32 {
-        words::get4(d, a)
+        words::get::<4>(d, a)
     }
 
     fn put(out: &mut [u8], u: u32) {

@@ -12,32 +12,43 @@ pub fn wider(x: u32) -> u64
     u64::from(x)
 }
 
+// The number of the `N` bytes from `a` on.
+pub fn get<const N: usize>(d: &[u8], a: usize) -> u32
+    requires { (N ≤ 4) × (a + N ≤ length d.now) }
+    ensures { (result ≡ little N d.now a) × (result < 256 ^ N) }
+{
+    let end = a + N;
+    let mut bytes = [0u8; 4];
+    bytes[..N].copy_from_slice(&d[a..end]);
+    u32::from_le_bytes(bytes)
+}
+
 pub fn get1(d: &[u8], a: usize) -> u32
     requires { a + 1 ≤ length d.now }
     ensures { (result ≡ little 1 d.now a) × (result < 256) }
 {
-    u32::from(d[a])
+    get::<1>(d, a)
 }
 
 pub fn get2(d: &[u8], a: usize) -> u32
     requires { a + 2 ≤ length d.now }
     ensures { (result ≡ little 2 d.now a) × (result < 65536) }
 {
-    u32::from_le_bytes([d[a], d[a + 1], 0, 0])
+    get::<2>(d, a)
 }
 
 pub fn get3(d: &[u8], a: usize) -> u32
     requires { a + 3 ≤ length d.now }
     ensures { (result ≡ little 3 d.now a) × (result < 16777216) }
 {
-    u32::from_le_bytes([d[a], d[a + 1], d[a + 2], 0])
+    get::<3>(d, a)
 }
 
 pub fn get4(d: &[u8], a: usize) -> u32
     requires { a + 4 ≤ length d.now }
     ensures { result ≡ little 4 d.now a }
 {
-    u32::from_le_bytes([d[a], d[a + 1], d[a + 2], d[a + 3]])
+    get::<4>(d, a)
 }
 
 // The number of four bytes, 0 past the slice's end.
@@ -99,11 +110,19 @@ pub fn put4(out: &mut [u8], v: u32)
     put::<4>(out, v)
 }
 
+// Byte by byte: where a number was put together from bytes, the compiler then moves them as they lie. A copy of an array is slower.
 pub fn put8(out: &mut [u8], w: u64)
     requires { length out.old ≡ 8 }
     ensures { out.new ≡ bytes_of 8 w }
 {
-    out.copy_from_slice(&w.to_le_bytes());
+    out[0] = (w % 256) as u8;
+    out[1] = (w / 256 % 256) as u8;
+    out[2] = (w / 65536 % 256) as u8;
+    out[3] = (w / 16777216 % 256) as u8;
+    out[4] = (w / 4294967296 % 256) as u8;
+    out[5] = (w / 1099511627776 % 256) as u8;
+    out[6] = (w / 281474976710656 % 256) as u8;
+    out[7] = (w / 72057594037927936) as u8;
 }
 
 // By way of a block of our own: the compiler then sees that nothing overlaps, drops the block, and moves memory at once.
