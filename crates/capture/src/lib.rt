@@ -61,8 +61,8 @@ fn surround(address: u32, length: usize, out: &mut [u8])
 {
     let zeros = [0u8; LONGEST];
     let padding = LONGEST - length;
-    words::put4(&mut out[0..4], address);
-    words::put4(&mut out[4..8], length as u32);
+    words::put::<4>(&mut out[0..4], address);
+    words::put::<4>(&mut out[4..8], length as u32);
     words::place(&zeros[0..padding], out, 8 + length);
 }
 

@@ -44,17 +44,17 @@ pub fn load(kept: &[u8; 40]) -> Take
     Take {
         who: Who {
             name: *name(kept),
-            address: words::get4(kept, ADDRESS),
+            address: words::get::<4>(kept, ADDRESS),
         },
         begun: kept[BEGUN] != 0,
         shape: Shape {
             rate: kept[RATE],
-            channels: words::get2(kept, CHANNELS) as u16,
+            channels: words::get::<2>(kept, CHANNELS) as u16,
             format: kept[FORMAT],
         },
         line: Line {
-            n: words::get2(kept, FRAMES) as u16,
-            newest: words::get4(kept, NEWEST),
+            n: words::get::<2>(kept, FRAMES) as u16,
+            newest: words::get::<4>(kept, NEWEST),
             place: words::get8(kept, PLACE) as usize,
         },
     }
@@ -74,7 +74,7 @@ fn middle(t: Take) -> [u8; 8]
 fn store_newest(newest: u32, place: usize, kept: &mut [u8; 40])
     ensures { kept.new ≡ put kept.old 28 (kept_bytes newest_widths (newest ∷ place ∷ [])) }
 {
-    words::put4(&mut kept[NEWEST..PLACE], newest);
+    words::put::<4>(&mut kept[NEWEST..PLACE], newest);
     words::put8(&mut kept[PLACE..SIZE], place as u64);
 }
 
@@ -82,7 +82,7 @@ fn store_newest(newest: u32, place: usize, kept: &mut [u8; 40])
 fn store_tail(t: Take, kept: &mut [u8; 40])
     ensures { kept.new ≡ put kept.old 16 (tail_of t) }
 {
-    words::put4(&mut kept[ADDRESS..BEGUN], t.who.address);
+    words::put::<4>(&mut kept[ADDRESS..BEGUN], t.who.address);
     words::place(&middle(t), kept, BEGUN);
     store_newest(t.line.newest, t.line.place, kept);
 }

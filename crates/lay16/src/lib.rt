@@ -30,8 +30,8 @@ fn half(d: &[u8], from: usize, out: &mut [u8])
     requires { (from + 4 * size_of signed16 ≤ length d.now) × (length out.old ≡ 4 * slot_bytes) }
     ensures { out.new ≡ half_of (in_row d.now from) }
 {
-    let v = words::get4(d, from);
-    let w = words::get4(d, from + 4);
+    let v = words::get::<4>(d, from);
+    let w = words::get::<4>(d, from + 4);
     records::put_half(out, part(v, 1), part(v, 65536), part(w, 1), part(w, 65536));
 }
 

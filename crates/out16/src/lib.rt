@@ -41,7 +41,7 @@ fn pairs(track: &[u8], first: usize, frames: usize, out: &mut [u8], at: usize)
         let v = pair(track, (first + k) * RECORD, 0);
         let a = at + k * 4;
         let e = a + 4;
-        words::put4(&mut out[a..e], v);
+        words::put::<4>(&mut out[a..e], v);
     }
 }
 
@@ -66,7 +66,7 @@ fn ones(track: &[u8], first: usize, frames: usize, out: &mut [u8], at: usize)
         let v = two_frames(track, (first + k * 2) * RECORD);
         let a = at + k * 4;
         let e = a + 4;
-        words::put4(&mut out[a..e], v);
+        words::put::<4>(&mut out[a..e], v);
     }
     taken::some::<Signed16>(track, first + count * 2, frames % 2, 1, out, at + count * 4);
 }
@@ -81,10 +81,10 @@ fn full_frame(track: &[u8], at: usize, out: &mut [u8])
     let w = pair(track, at, 2);
     let x = pair(track, at, 4);
     let y = pair(track, at, 6);
-    words::put4(&mut out[0..4], v);
-    words::put4(&mut out[4..8], w);
-    words::put4(&mut out[8..12], x);
-    words::put4(&mut out[12..16], y);
+    words::put::<4>(&mut out[0..4], v);
+    words::put::<4>(&mut out[4..8], w);
+    words::put::<4>(&mut out[8..12], x);
+    words::put::<4>(&mut out[12..16], y);
 }
 
 fn full(track: &[u8], first: usize, frames: usize, out: &mut [u8], at: usize)

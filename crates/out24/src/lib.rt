@@ -17,9 +17,9 @@ fn store(track: &[u8], from: usize, channels: usize, out: &mut [u8], at: usize)
     ensures { out.new ≡ put out.old at (take (channels * 4) (drop from track.now)) }
 {
     if channels == 1 {
-        let v = words::get4(track, from);
+        let v = words::get::<4>(track, from);
         let m = at + 4;
-        words::put4(&mut out[at..m], v);
+        words::put::<4>(&mut out[at..m], v);
         return;
     }
     let w = words::get8(track, from);

@@ -47,10 +47,10 @@ fn sixteen_frames(track: &[u8], at: usize, out: &mut [u8])
     let w = four_frames(track, at + 4 * RECORD);
     let x = four_frames(track, at + 8 * RECORD);
     let y = four_frames(track, at + 12 * RECORD);
-    words::put4(&mut out[0..4], v);
-    words::put4(&mut out[4..8], w);
-    words::put4(&mut out[8..12], x);
-    words::put4(&mut out[12..16], y);
+    words::put::<4>(&mut out[0..4], v);
+    words::put::<4>(&mut out[4..8], w);
+    words::put::<4>(&mut out[8..12], x);
+    words::put::<4>(&mut out[12..16], y);
 }
 
 // Sixteen frames a turn, and those that are left. Where a turn reads is bounded by the end, which it never reaches: the compiler would
@@ -94,7 +94,7 @@ fn pairs(track: &[u8], first: usize, frames: usize, out: &mut [u8], at: usize)
         let v = two_frames(track, (first + k * 2) * RECORD);
         let a = at + k * 4;
         let e = a + 4;
-        words::put4(&mut out[a..e], v);
+        words::put::<4>(&mut out[a..e], v);
     }
     taken::some::<Unsigned8>(track, first + count * 2, frames % 2, 2, out, at + count * 4);
 }
@@ -120,8 +120,8 @@ fn full_frame(track: &[u8], at: usize, out: &mut [u8])
 {
     let v = four(track, at, 0);
     let w = four(track, at, 4);
-    words::put4(&mut out[0..4], v);
-    words::put4(&mut out[4..8], w);
+    words::put::<4>(&mut out[0..4], v);
+    words::put::<4>(&mut out[4..8], w);
 }
 
 fn full(track: &[u8], first: usize, frames: usize, out: &mut [u8], at: usize)

@@ -41,9 +41,9 @@ pub fn put_half(out: &mut [u8], c0: u32, c1: u32, c2: u32, c3: u32)
     requires { (length out.old ≡ 4 * slot_bytes) × (c0 < 16777216) × (c1 < 16777216) × (c2 < 16777216) × (c3 < 16777216) }
     ensures { out.new ≡ half_of (byte (c0 ∷ c1 ∷ c2 ∷ c3 ∷ [])) }
 {
-    words::put4(&mut out[0..4], c0 + c1 % 256 * 16777216);
-    words::put4(&mut out[4..8], c1 / 256 + c2 % 65536 * 65536);
-    words::put4(&mut out[8..12], c2 / 65536 + c3 * 256);
+    words::put::<4>(&mut out[0..4], c0 + c1 % 256 * 16777216);
+    words::put::<4>(&mut out[4..8], c1 / 256 + c2 % 65536 * 65536);
+    words::put::<4>(&mut out[8..12], c2 / 65536 + c3 * 256);
 }
 
 // Slot `c` of the record at `at` by one read of four bytes: the last slot's starts a byte early.
@@ -52,7 +52,7 @@ pub fn slot(t: &[u8], at: usize, c: usize) -> u32
     ensures { (result ≡ little slot_bytes t.now (at + c * slot_bytes)) × (result < 16777216) }
 {
     if c < 7 {
-        return words::get4(t, at + c * 3) % 16777216;
+        return words::get::<4>(t, at + c * 3) % 16777216;
     }
-    words::get4(t, at + 20) / 256
+    words::get::<4>(t, at + 20) / 256
 }

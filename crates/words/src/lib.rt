@@ -6,12 +6,6 @@ ghost use Rattle.std.specs.Prelude.{◌≡◌, ◌+◌, ◌^◌, ◌<◌, ◌≤
 ghost use Rattle.lists.specs.Lists.{put};
 ghost use Rattle.lists.specs.Little.{little, bytes_of};
 
-pub fn wider(x: u32) -> u64
-    ensures { result ≡ x }
-{
-    u64::from(x)
-}
-
 // The number of the `N` bytes from `a` on.
 pub fn get<const N: usize>(d: &[u8], a: usize) -> u32
     requires { (N ≤ 4) × (a + N ≤ length d.now) }
@@ -21,34 +15,6 @@ pub fn get<const N: usize>(d: &[u8], a: usize) -> u32
     let mut bytes = [0u8; 4];
     bytes[..N].copy_from_slice(&d[a..end]);
     u32::from_le_bytes(bytes)
-}
-
-pub fn get1(d: &[u8], a: usize) -> u32
-    requires { a + 1 ≤ length d.now }
-    ensures { (result ≡ little 1 d.now a) × (result < 256) }
-{
-    get::<1>(d, a)
-}
-
-pub fn get2(d: &[u8], a: usize) -> u32
-    requires { a + 2 ≤ length d.now }
-    ensures { (result ≡ little 2 d.now a) × (result < 65536) }
-{
-    get::<2>(d, a)
-}
-
-pub fn get3(d: &[u8], a: usize) -> u32
-    requires { a + 3 ≤ length d.now }
-    ensures { (result ≡ little 3 d.now a) × (result < 16777216) }
-{
-    get::<3>(d, a)
-}
-
-pub fn get4(d: &[u8], a: usize) -> u32
-    requires { a + 4 ≤ length d.now }
-    ensures { result ≡ little 4 d.now a }
-{
-    get::<4>(d, a)
 }
 
 // The number of four bytes, 0 past the slice's end.
@@ -80,34 +46,6 @@ pub fn put<const N: usize>(out: &mut [u8], v: u32)
     ensures { out.new ≡ bytes_of N v }
 {
     out.copy_from_slice(&v.to_le_bytes()[..N]);
-}
-
-pub fn put1(out: &mut [u8], v: u32)
-    requires { (length out.old ≡ 1) × (v < 256) }
-    ensures { out.new ≡ bytes_of 1 v }
-{
-    put::<1>(out, v)
-}
-
-pub fn put2(out: &mut [u8], v: u32)
-    requires { (length out.old ≡ 2) × (v < 65536) }
-    ensures { out.new ≡ bytes_of 2 v }
-{
-    put::<2>(out, v)
-}
-
-pub fn put3(out: &mut [u8], v: u32)
-    requires { (length out.old ≡ 3) × (v < 16777216) }
-    ensures { out.new ≡ bytes_of 3 v }
-{
-    put::<3>(out, v)
-}
-
-pub fn put4(out: &mut [u8], v: u32)
-    requires { length out.old ≡ 4 }
-    ensures { out.new ≡ bytes_of 4 v }
-{
-    put::<4>(out, v)
 }
 
 // Byte by byte: where a number was put together from bytes, the compiler then moves them as they lie. A copy of an array is slower.

@@ -60,7 +60,7 @@ pub fn lead(b4: u8, b5: u8, b6: u8, b7: u8, name: &[u8], named: usize, counter: 
     let mark = [0x56u8, 0x42, 0x41, 0x4e, b4, b5, b6, b7];
     words::place(&mark, out, 0);
     wire::name::keep(name, named, &mut out[8..24]);
-    words::put4(&mut out[24..28], counter);
+    words::put::<4>(&mut out[24..28], counter);
 }
 
 // The 28 bytes of a header: audio, PCM, the reserved bit zero. Its name comes as a slice beside it: one copied out of a struct

@@ -5,5 +5,5 @@ use Rattle.out16.proofs.full_frame.Goals as goal
 
 pub returns : goal.returns
 returns c =
-    by_twos signed16 _ _ _ c.requires.1 _ _ _ _ _ _ _ _ c.put4.ensures c.put4-2.ensures c.put4-3.ensures c.put4-4.ensures
+    by_twos signed16 _ _ _ c.requires.1 _ _ _ _ _ _ _ _ c.put.ensures c.put-2.ensures c.put-3.ensures c.put-4.ensures
     c.pair-v.ensures c.pair-w.ensures c.pair-x.ensures c.pair-y.ensures

@@ -12,7 +12,7 @@ loop-k-init c = take_start signed16 2 _ _ _ _ _ _ c.requires.2
 pub loop-k-preserved : goal.loop-k-preserved
 loop-k-preserved c =
     take_next signed16 2 _ _ _ _ _ _ _ _ c.loop-k.invariant _ _ 4 _ c.loop-k-test.true (omega arith) refl refl
-    (run_for_count signed16 _ _ 2 2 _ _ refl c.put4.ensures c.pair-v.ensures)
+    (run_for_count signed16 _ _ 2 2 _ _ refl c.put.ensures c.pair-v.ensures)
 
 pub returns : goal.returns
 returns c = taken signed16 2 _ _ _ _ _ _ _ c.loop-k.invariant c.loop-k-test.false

@@ -7,7 +7,7 @@ use Rattle.out24.proofs.store.Goals as goal
 pub returns-then-channels-eq1 : goal.returns-then-channels-eq1
 returns-then-channels-eq1 c =
     let z : c.args.channels ≡ 1 = omega arith in
-    rw z (word_stored c.args.track.now (λ i. (c.type_inv.track i).fits) 4 _ _ _ _ _ (omega arith) c.get4-v.ensures c.put4.ensures)
+    rw z (word_stored c.args.track.now (λ i. (c.type_inv.track i).fits) 4 _ _ _ _ _ (omega arith) c.get-v.ensures.0 c.put.ensures)
 
 pub returns : goal.returns
 returns c =

@@ -10,7 +10,7 @@ loop-k-init c = turns_start unsigned8 2 2 _ _ _ _ _ (omega arith)
 
 pub loop-k-preserved : goal.loop-k-preserved
 loop-k-preserved c =
-    turns_next unsigned8 2 2 _ _ _ _ _ _ _ c.loop-k.invariant _ _ _ _ c.loop-k-test.true refl refl c.put4.ensures c.two_frames-v.ensures
+    turns_next unsigned8 2 2 _ _ _ _ _ _ _ c.loop-k.invariant _ _ _ _ c.loop-k-test.true refl refl c.put.ensures c.two_frames-v.ensures
 
 pub returns : goal.returns
 returns c = turns_rest unsigned8 2 2 _ _ _ _ _ _ _ c.loop-k.invariant _ _ _ refl c.loop-k-test.false refl c.some.ensures

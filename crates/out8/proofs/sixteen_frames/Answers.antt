@@ -4,5 +4,5 @@ use Rattle.out8.proofs.sixteen_frames.Goals as goal
 
 pub returns : goal.returns
 returns c =
-    sixteen_frames _ _ _ _ _ _ _ _ _ _ _ c.requires.1 c.put4.ensures c.put4-2.ensures c.put4-3.ensures c.put4-4.ensures
+    sixteen_frames _ _ _ _ _ _ _ _ _ _ _ c.requires.1 c.put.ensures c.put-2.ensures c.put-3.ensures c.put-4.ensures
     c.four_frames-v.ensures c.four_frames-w.ensures c.four_frames-x.ensures c.four_frames-y.ensures

@@ -30,4 +30,4 @@ pub returns : goal.returns
 returns c =
     let o = c in
     let a = o.args in
-    last a.t.now (λ i. (o.type_inv.t i).fits) a.at a.c _ (omega arith) (omega arith) c.get4-2.ensures
+    last a.t.now (λ i. (o.type_inv.t i).fits) a.at a.c _ (omega arith) (omega arith) c.get-2.ensures.0
