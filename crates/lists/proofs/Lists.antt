@@ -1,13 +1,13 @@
--- Laws of `put` and `up_to`, and of a run of stores over a whole slice.
+-- Laws of `put` and `up_to`.
 use mathlib.Core.Path.{◌≡◌, refl, sym, ap, ◌∙◌}
 use mathlib.Core.List.{List, [], ◌∷◌, ◌++◌, append_assoc, append-nil}
 use Prim.Native.Nat.{ℕ, zero, suc, ◌+◌, ◌-◌, ◌*◌, ◌<◌, ◌≤◌, zero-le}
-use native.Mathlib.Nat.{not-suc-le-zero, le_of_suc-le-suc, zero-add, add-zero, add-suc, le_of_eq, suc-mul, zero-mul, add-sub_cancel_left, min-le_left, mul-le-mul_right}
+use native.Mathlib.Nat.{not-suc-le-zero, le_of_suc-le-suc, zero-add, add-zero, add-suc, le_of_eq, suc-mul, zero-mul, mul-le-mul_right}
 use native.Mathlib.Omega.{arith}
 use native.Mathlib.Decide.{dec_lt}
 use native.Mathlib.Numerals.{add-one}
 use lib.ListN.{length, get_or, set, take, drop, replicate, length-append, length-take, length-drop, take-append-drop, drop_of_length-le, get_or-append}
-use lib.Seq.{sets, sets-eq, take_at, drop_at, drop-append-add, drop-drop, length-take-le, take-length, take-add, get_or-append-add, get_or-take, get_or-drop}
+use lib.Seq.{take_at, drop_at, drop-append-add, drop-drop, length-take-le, take-length, take-add, get_or-append-add, get_or-take, get_or-drop}
 use borrow.Rule.Slice.PartMut.{put_mid}
 use Rattle.lists.specs.Lists.{byte, put, up_to}
 
@@ -18,13 +18,6 @@ within k n s h = rw (← suc-mul k s) (mul-le-mul_right s h)
 
 pub one_more_times : (k s : ℕ) → (k + 1) * s ≡ k * s + s
 one_more_times k s = rw (add-one, suc-mul)
-
--- ---- stores at 0, 1, .. over the whole of l leave what was stored
-
-pub stored : (l vs : List ℕ) → length l ≡ length vs → sets l 0 vs ≡ vs
-stored l vs h =
-    sets-eq vs l 0 (rw zero-add (le_of_eq (sym h)))
-    ∙ rw (zero-add, drop_of_length-le l (le_of_eq h)) (append-nil vs)
 
 -- ---- a list written over
 

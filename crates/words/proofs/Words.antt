@@ -1,17 +1,17 @@
 -- The library's bytes of a number, and the number that it reads from bytes, are the definitions'.
 use mathlib.Core.Path.{◌≡◌, refl, sym, ap, ◌∙◌}
 use mathlib.Core.List.{List}
-use Prim.Native.Nat.{ℕ, ◌+◌, ◌-◌, ◌*◌, ◌/◌, ◌%◌, ◌^◌, ◌≤◌, ◌<◌, zero-le}
+use Prim.Native.Nat.{ℕ, ◌+◌, ◌-◌, ◌*◌, ◌/◌, ◌≤◌, zero-le}
 use native.Mathlib.Nat.{zero-add}
 use native.Mathlib.Omega.{arith}
-use lib.ListN.{set, length, take, drop, replicate, length-take, length-drop}
+use lib.ListN.{length, take, drop, replicate, length-take, length-drop}
 use lib.Seq.{take_at}
 use borrow.Rule.Slice.PartMut.{put_mid}
 use mir.Syntax.{w32, w64}
 use Rattle.std.specs.Int.{from_le_bytes, to_le_bytes}
 use Rattle.lists.specs.Lists.{byte, put}
 use Rattle.lists.specs.Little.{little, bytes_of}
-use Rattle.lists.proofs.Lists.{stored, lent, zero_at, put_inside, put_after}
+use Rattle.lists.proofs.Lists.{lent, zero_at, put_inside, put_after}
 use Rattle.lists.proofs.Little.{little_one, little_last, little_joined, little_same, little_zero, little_part, bytes_from, bytes_none, bytes_split, bytes_length}
 
 -- ---- read
@@ -72,17 +72,13 @@ module _ (v : ℕ) where
       bytes_from 3 v 0 _ _ (omega arith) (bytes_from 2 v 1 _ _ refl (bytes_from 1 v 2 _ _ refl (bytes_from 0 v 3 _ _ refl (bytes_none _))))
       ∙ whole 4
 
+  pub bytes8 : to_le_bytes w64 v ≡ bytes_of 8 v
+  bytes8 =
+      bytes_from 7 v 0 _ _ (omega arith) (bytes_from 6 v 1 _ _ refl (bytes_from 5 v 2 _ _ refl (bytes_from 4 v 3 _ _ refl
+      (bytes_from 3 v 4 _ _ refl (bytes_from 2 v 5 _ _ refl (bytes_from 1 v 6 _ _ refl (bytes_from 0 v 7 _ _ refl (bytes_none _))))))))
+      ∙ whole 8
+
   pub first_bytes : (n : ℕ) → n ≤ 4 → take n (to_le_bytes w32 v) ≡ bytes_of n v
   first_bytes n l =
       let e : 4 ≡ n + (4 - n) = omega arith in
       ap (take n) (bytes4 ∙ ap (λ (k : ℕ). bytes_of k v) e ∙ bytes_split n (4 - n) v) ∙ take_at (bytes_of n v) _ n (bytes_length n v)
-
-  pub store8 : (out : List ℕ) → length out ≡ 8 → v < 2 ^ 64
-      → set (set (set (set (set (set (set (set out 0 (v % 256)) 1 (v / 256 % 256)) 2 (v / 65536 % 256)) 3 (v / 16777216 % 256))
-      4 (v / 4294967296 % 256)) 5 (v / 1099511627776 % 256)) 6 (v / 281474976710656 % 256)) 7 (v / 72057594037927936)
-      ≡ bytes_of 8 v
-  store8 out h l =
-      stored out _ h
-      ∙ bytes_from 7 v 0 _ _ (omega arith) (bytes_from 6 v 1 _ _ refl (bytes_from 5 v 2 _ _ refl (bytes_from 4 v 3 _ _ refl
-      (bytes_from 3 v 4 _ _ refl (bytes_from 2 v 5 _ _ refl (bytes_from 1 v 6 _ _ refl (bytes_from 0 v 7 _ _ (omega arith) (bytes_none _))))))))
-      ∙ whole 8

@@ -48,19 +48,18 @@ pub fn put<const N: usize>(out: &mut [u8], v: u32)
     out.copy_from_slice(&v.to_le_bytes()[..N]);
 }
 
-// Byte by byte: where a number was put together from bytes, the compiler then moves them as they lie. A copy of an array is slower.
 pub fn put8(out: &mut [u8], w: u64)
     requires { length out.old ≡ 8 }
     ensures { out.new ≡ bytes_of 8 w }
 {
-    out[0] = (w % 256) as u8;
-    out[1] = (w / 256 % 256) as u8;
-    out[2] = (w / 65536 % 256) as u8;
-    out[3] = (w / 16777216 % 256) as u8;
-    out[4] = (w / 4294967296 % 256) as u8;
-    out[5] = (w / 1099511627776 % 256) as u8;
-    out[6] = (w / 281474976710656 % 256) as u8;
-    out[7] = (w / 72057594037927936) as u8;
+    out.copy_from_slice(&w.to_le_bytes());
+}
+
+pub fn put8(out: &mut [u8], w: u64)
+    requires { length out.old ≡ 8 }
+    ensures { out.new ≡ bytes_of 8 w }
+{
+    out.copy_from_slice(&w.to_le_bytes());
 }
 
 // By way of a block of our own: the compiler then sees that nothing overlaps, drops the block, and moves memory at once.

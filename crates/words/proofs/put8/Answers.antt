@@ -1,0 +1,7 @@
+-- The library's bytes of the number.
+use mathlib.Core.Path.{◌∙◌}
+use Rattle.words.proofs.Words.{bytes8}
+use Rattle.words.proofs.put8.Goals as goal
+
+pub returns : goal.returns
+returns c = c.copy_from_slice.ensures.after ∙ c.to_le_bytes.ensures ∙ bytes8 c.args.w
