@@ -55,13 +55,6 @@ pub fn put8(out: &mut [u8], w: u64)
     out.copy_from_slice(&w.to_le_bytes());
 }
 
-pub fn put8(out: &mut [u8], w: u64)
-    requires { length out.old ≡ 8 }
-    ensures { out.new ≡ bytes_of 8 w }
-{
-    out.copy_from_slice(&w.to_le_bytes());
-}
-
 // By way of a block of our own: the compiler then sees that nothing overlaps, drops the block, and moves memory at once.
 fn copy_block(src: &[u8], out: &mut [u8])
     requires { (length src.now ≤ 1464) × (length out.old ≡ length src.now) }
