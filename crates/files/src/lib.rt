@@ -102,7 +102,10 @@ pub struct Output<'a, F> {
 
 impl<'a, F: OpenFile + Write + Drop> Output<'a, F> {
     // It is empty at first.
-    pub fn begin<R: Files<File = F> + Eprint>(rt: &R, path: &'a [u8]) -> result::Result<Self, Said> {
+    pub fn begin<R: Files<File = F> + Eprint>(
+        rt: &R,
+        path: &'a [u8],
+    ) -> result::Result<Self, Said> {
         let file = told(rt, path, create(rt, path))?;
         Ok(Output { file, path })
     }

@@ -18,7 +18,8 @@ fn pair_frame(d: &[u8], from: usize, out: &mut [u8])
     requires { (from + 2 * size_of signed24 ≤ length d.now) × (length out.old ≡ record_bytes) }
     ensures { out.new ≡ record_of (frame_slot signed24 d.now from 2) }
 {
-    let w = u64::from(words::get::<4>(d, from)) + u64::from(words::get::<2>(d, from + 4)) * 4294967296;
+    let w = u64::from(words::get::<4>(d, from))
+        + u64::from(words::get::<2>(d, from + 4)) * 4294967296;
     words::put8(&mut out[0..8], w);
     words::put8(&mut out[8..16], 0);
     words::put8(&mut out[16..24], 0);

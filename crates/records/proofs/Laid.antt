@@ -70,4 +70,3 @@ pub packet_sized : (f : Format) (d : List ℕ) (from frames channels : ℕ) (tra
     → ys ≡ record_of (frame_slot f d (from + k * (channels * size)) channels) → size ≡ size_of f
     → Laying (packet_slot f d from channels) frames track₀ place (put_mid ((place + k) * 24) ((place + k) * 24 + 24 - (place + k) * 24) track ys) (k + 1)
 packet_sized f d from frames channels track₀ place track k l ys size h p z = packet_next f d from frames channels track₀ place track k l ys h (rw z at p)
-
