@@ -21,7 +21,7 @@ fn has_bad_numbers(h: Header) -> bool
 }
 
 // Row 20. A good form has a good name, which is measured once for the checks and the writing: this gives how many characters it has.
-pub fn check_form(name: &[u8], h: Header) -> Result<usize, Made>
+pub fn check_form(name: &[u8; 16], h: Header) -> Result<usize, Made>
     requires { name.now ≡ h.name }
     ensures { result ≡ passing (length (name_of h.name)) (form_rows h) }
 {
@@ -32,7 +32,7 @@ pub fn check_form(name: &[u8], h: Header) -> Result<usize, Made>
 }
 
 // Rows 20 to 23, by the bytes of data given and the room for the packet. After row 22 what is given is small, so the sum fits.
-fn check(name: &[u8], h: Header, given: usize, room: usize) -> Result<usize, Made>
+fn check(name: &[u8; 16], h: Header, given: usize, room: usize) -> Result<usize, Made>
     requires { name.now ≡ h.name }
     ensures { result ≡ passing (length (name_of h.name)) (write_rows h given room) }
 {
@@ -51,8 +51,16 @@ fn check(name: &[u8], h: Header, given: usize, room: usize) -> Result<usize, Mad
 }
 
 // The 28 bytes, of the raw bytes 4 to 7, a name of `named` characters and a counter.
-pub fn lead(b4: u8, b5: u8, b6: u8, b7: u8, name: &[u8], named: usize, counter: u32, out: &mut [u8])
-    requires name_len { length name.now ≡ 16 }
+pub fn lead(
+    b4: u8,
+    b5: u8,
+    b6: u8,
+    b7: u8,
+    name: &[u8; 16],
+    named: usize,
+    counter: u32,
+    out: &mut [u8],
+)
     requires named_value { named ≡ length (name_of name.now) }
     requires out_len { length out.old ≡ header_size }
     ensures { out.new ≡ lead_of b4 b5 b6 b7 name.now counter }
@@ -63,9 +71,9 @@ pub fn lead(b4: u8, b5: u8, b6: u8, b7: u8, name: &[u8], named: usize, counter: 
     words::put::<4>(&mut out[24..28], counter);
 }
 
-// The 28 bytes of a header: audio, PCM, the reserved bit zero. Its name comes as a slice beside it: one copied out of a struct
+// The 28 bytes of a header: audio, PCM, the reserved bit zero. Its name comes beside it: one copied out of a struct
 // costs much.
-pub fn header(name: &[u8], named: usize, h: Header, out: &mut [u8])
+pub fn header(name: &[u8; 16], named: usize, h: Header, out: &mut [u8])
     requires name_value { name.now ≡ h.name }
     requires named_value { named ≡ length (name_of name.now) }
     requires good_form { GoodForm h }
@@ -80,7 +88,7 @@ pub fn header(name: &[u8], named: usize, h: Header, out: &mut [u8])
 }
 
 // A packet of good form, where there is room.
-fn emit(name: &[u8], named: usize, h: Header, samples: &[u8], out: &mut [u8])
+fn emit(name: &[u8; 16], named: usize, h: Header, samples: &[u8], out: &mut [u8])
     requires name_value { name.now ≡ h.name }
     requires named_value { named ≡ length (name_of name.now) }
     requires good_form { GoodForm h }
