@@ -15,6 +15,7 @@ use answers::Made;
 use cutter_rules::Cut;
 use formats::Format;
 use wire_rules::Header;
+use writer::write::Measured;
 
 // Row 20; as in the packet writer, it gives how many characters the name has.
 fn check_form(name: &[u8; 16], h: Header) -> Result<usize, Made>
@@ -80,14 +81,13 @@ fn take_samples(h: Header, track: &[u8], from: usize, out: &mut [u8])
 }
 
 // Straight into the output, in one pass.
-fn emit(name: &[u8; 16], named: usize, h: Header, track: &[u8], from: usize, out: &mut [u8])
-    requires name_value { name.now ≡ h.name }
-    requires named_value { named ≡ length (name_of name.now) }
+fn emit(name: Measured, h: Header, track: &[u8], from: usize, out: &mut [u8])
+    requires name_value { name.field.now ≡ h.name }
     requires good_form { GoodForm h }
     requires channels_bound { (h.channels ≤ 8) × (from + h.frames ≤ records_held track.now) × (header_size + data_size h ≤ length out.old) }
     ensures { out.new ≡ put out.old 0 (packet_of h (taken_by h track.now from)) }
 {
-    writer::write::header(name, named, h, &mut out[0..wire_rules::HEADER]);
+    writer::write::header(name, h, &mut out[0..wire_rules::HEADER]);
     take_samples(h, track, from, out);
 }
 
@@ -98,10 +98,14 @@ pub fn cut_named(name: &[u8; 16], h: Header, track: &[u8], k: u32, out: &mut [u8
     ensures output { out.new ≡ cut_output h track.now k out.old }
 {
     match check(name, h, track, k, out.len()) {
-        Ok(named) => {
+        Ok(characters) => {
+            let named = Measured {
+                field: name,
+                characters,
+            };
             let hk = packet_header(h, track::held(track), k);
             let from = crate::schedule::from(h.frames, k);
-            emit(name, named, hk, track, from, out);
+            emit(named, hk, track, from, out);
             Cut {
                 answer: Made::Done,
                 length: wire_rules::HEADER + reader::header::data_size(hk),
