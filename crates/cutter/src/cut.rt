@@ -15,9 +15,10 @@ use answers::Made;
 use cutter_rules::Cut;
 use formats::Format;
 use wire_rules::Header;
+use writer::write::Measured;
 
 // Row 20; as in the packet writer, it gives how many characters the name has.
-fn check_form(name: &[u8], h: Header) -> Result<usize, Made>
+fn check_form(name: &[u8; 16], h: Header) -> Result<usize, Made>
     requires { name.now ≡ h.name }
     ensures { result ≡ passing (length (name_of h.name)) (form_rows h) }
 {
@@ -40,7 +41,7 @@ fn packet_header(h: Header, frames: usize, k: u32) -> Header
 }
 
 // All rows in order. Of the packet writer's only the room can still refuse: N and the track bound the packet.
-fn check(name: &[u8], h: Header, track: &[u8], k: u32, room: usize) -> Result<usize, Made>
+fn check(name: &[u8; 16], h: Header, track: &[u8], k: u32, room: usize) -> Result<usize, Made>
     requires { name.now ≡ h.name }
     ensures { result ≡ passing (length (name_of h.name)) (cut_rows h track.now k room) }
 {
@@ -72,36 +73,39 @@ fn take_samples(h: Header, track: &[u8], from: usize, out: &mut [u8])
         f,
         track,
         from,
-        h.frames as usize,
-        h.channels as usize,
+        usize::from(h.frames),
+        usize::from(h.channels),
         out,
         wire_rules::HEADER,
     );
 }
 
 // Straight into the output, in one pass.
-fn emit(name: &[u8], named: usize, h: Header, track: &[u8], from: usize, out: &mut [u8])
-    requires name_value { name.now ≡ h.name }
-    requires named_value { named ≡ length (name_of name.now) }
+fn emit(name: Measured, h: Header, track: &[u8], from: usize, out: &mut [u8])
+    requires name_value { name.field.now ≡ h.name }
     requires good_form { GoodForm h }
     requires channels_bound { (h.channels ≤ 8) × (from + h.frames ≤ records_held track.now) × (header_size + data_size h ≤ length out.old) }
     ensures { out.new ≡ put out.old 0 (packet_of h (taken_by h track.now from)) }
 {
-    writer::write::header(name, named, h, &mut out[0..wire_rules::HEADER]);
+    writer::write::header(name, h, &mut out[0..wire_rules::HEADER]);
     take_samples(h, track, from, out);
 }
 
 // Packet `k` of the track, or nothing where a check refuses. The header's frames are N and its counter is the start.
-pub fn cut_named(name: &[u8], h: Header, track: &[u8], k: u32, out: &mut [u8]) -> Cut
+pub fn cut_named(name: &[u8; 16], h: Header, track: &[u8], k: u32, out: &mut [u8]) -> Cut
     requires { name.now ≡ h.name }
     ensures answer { result ≡ cut_of h track.now k out.old }
     ensures output { out.new ≡ cut_output h track.now k out.old }
 {
     match check(name, h, track, k, out.len()) {
-        Ok(named) => {
+        Ok(characters) => {
+            let named = Measured {
+                field: name,
+                characters,
+            };
             let hk = packet_header(h, track::held(track), k);
             let from = crate::schedule::from(h.frames, k);
-            emit(name, named, hk, track, from, out);
+            emit(named, hk, track, from, out);
             Cut {
                 answer: Made::Done,
                 length: wire_rules::HEADER + reader::header::data_size(hk),

@@ -2,7 +2,7 @@
 ghost use Rattle.std.specs.Prelude.{◌≡◌, ◌*◌, ◌^◌, ◌≤◌, ◌<◌, length};
 ghost use Rattle.lists.specs.Tables.{checked};
 ghost use Rattle.formats.specs.Formats.{size_at};
-ghost use Rattle.wire_rules.specs.Header.{header_size, header_of, data_size, foreign, mark_rows, bit_rows, field_rows, header_rows, header_alone};
+ghost use Rattle.wire_rules.specs.Header.{header_size, header_of, data_size, foreign, name_field, mark_rows, bit_rows, field_rows, header_rows, header_alone};
 ghost use Rattle.reader.specs.Unnamed.{unnamed};
 
 use answers::Answer;
@@ -16,6 +16,14 @@ pub(crate) fn is_foreign(d: &[u8]) -> bool
     words::at4(d, 0) != 0x4e414256
 }
 
+// The 16 bytes of the name.
+pub fn name_field(d: &[u8]) -> &[u8; 16]
+    requires { header_size ≤ length d.now }
+    ensures { result.now ≡ name_field d.now }
+{
+    d[8..24].as_array().unwrap()
+}
+
 // Rows 3 and 4.
 fn check_mark(d: &[u8]) -> Result<(), Answer>
     requires { header_size ≤ length d.now }
@@ -24,7 +32,7 @@ fn check_mark(d: &[u8]) -> Result<(), Answer>
     if is_foreign(d) {
         return Err(Answer::Foreign);
     }
-    if !wire::name::good(&d[8..24]) {
+    if !wire::name::good(name_field(d)) {
         return Err(Answer::Name);
     }
     Ok(())
@@ -88,7 +96,7 @@ pub(crate) fn fields(d: &[u8]) -> Header
     requires { header_size ≤ length d.now }
     ensures { result ≡ header_of d.now }
 {
-    let name = wire::name::kept(&d[8..24]);
+    let name = wire::name::kept(name_field(d));
     Header { name, ..numbers(d) }
 }
 

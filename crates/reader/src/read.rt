@@ -27,7 +27,7 @@ fn check_front(d: &[u8]) -> Result<(), Answer>
     ensures { result ≡ checked (front_rows d.now) }
 {
     check_lead(d)?;
-    if !wire::name::good(&d[8..24]) {
+    if !wire::name::good(crate::header::name_field(d)) {
         return Err(Answer::Name);
     }
     Ok(())

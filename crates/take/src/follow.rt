@@ -38,8 +38,8 @@ pub fn lay(format: u8, frames: u16, channels: u16, d: &[u8], place: usize, track
         f,
         d,
         HEADER,
-        frames as usize,
-        channels as usize,
+        usize::from(frames),
+        usize::from(channels),
         track,
         place,
     );

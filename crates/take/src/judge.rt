@@ -1,5 +1,5 @@
 // The checks of following, in two halves: the take's state and the stream, then the packet.
-ghost use Rattle.std.specs.Prelude.{◌≡◌, true, false, length};
+ghost use Rattle.std.specs.Prelude.{◌≡◌, true, false};
 ghost use Rattle.lists.specs.Tables.{checked};
 ghost use Rattle.wire_rules.specs.Names.{good_name};
 ghost use Rattle.take_rules.specs.Take.{bad_shape, bad_line, bad_state};
@@ -34,8 +34,8 @@ pub fn bad_state(name: &[u8; 16], t: Take) -> bool
 }
 
 // Row 4 and the name's part of row 5. What has the very bytes of a good name is good, and the same.
-fn check_name(name: &[u8; 16], field: &[u8]) -> Result<(), Answer>
-    requires { (good_name name.now ≡ true) × (length field.now ≡ 16) }
+fn check_name(name: &[u8; 16], field: &[u8; 16]) -> Result<(), Answer>
+    requires { good_name name.now ≡ true }
     ensures { result ≡ checked (named_rows name.now field.now) }
 {
     if wire::name::equal(name, field) {
@@ -59,7 +59,7 @@ fn check_stream(name: &[u8; 16], t: Take, address: u32, d: &[u8]) -> Result<(), 
         return Err(Answer::State);
     }
     reader::read::check_lead(d)?;
-    check_name(name, &d[8..24])?;
+    check_name(name, reader::header::name_field(d))?;
     if address != t.who.address {
         return Err(Answer::OtherStream);
     }

@@ -1,69 +1,17 @@
--- A name's field as words of eight bytes: compared, and kept with zeros after the name.
+-- A name's field as words of eight bytes, kept with zeros after the name.
 use mathlib.Core.Path.{◌≡◌, refl, sym, ap, ◌∙◌}
-use mathlib.Core.Bool.{Bool, true, false}
 use mathlib.Core.List.{List, [], ◌∷◌, ◌++◌, append-nil}
-use Prim.Native.Nat.{ℕ, zero, suc, ◌+◌, ◌-◌, ◌*◌, ◌%◌, ◌^◌, ◌≤◌, ◌<◌}
-use native.Mathlib.Nat.{pow-le-pow_right, add-zero, add-suc, suc-add, zero-add, mod-eq_of_lt, div-eq_of_lt, add-mul-mod_self_right, zero-sub, sub-zero, suc-sub-suc}
+use Prim.Native.Nat.{ℕ, zero, suc, ◌+◌, ◌-◌, ◌%◌, ◌^◌, ◌≤◌, ◌<◌}
+use native.Mathlib.Nat.{pow-le-pow_right, suc-add, zero-add, mod-eq_of_lt, div-eq_of_lt, add-mul-mod_self_right, zero-sub, sub-zero, suc-sub-suc}
 use native.Mathlib.Decide.{dec_le}
 use native.Mathlib.Omega.{arith}
-use lib.Dec.{eqb}
-use lib.ListN.{length, take, drop, replicate, length-take, length-drop, drop_of_length-le, take-append-drop, replicate-append-replicate}
-use lib.Seq.{drop-cons, take-nil, take_all, take-take, length-take-le}
-use borrow.Author.Tests.{eq-eqb, ne_eqb, eqb-true, eqb-false}
+use lib.ListN.{length, take, drop, replicate, length-take, length-drop, take-append-drop, replicate-append-replicate}
+use lib.Seq.{take-nil, take_all, take-take, length-take-le}
 use Rattle.lists.specs.Lists.{byte}
-use Rattle.lists.specs.Tables.{choose}
 use Rattle.lists.specs.Little.{little, bytes_of}
-use Rattle.lists.proofs.Tables.{by_test}
 use Rattle.lists.proofs.Little.{little_joined, little_below, bytes_split, bytes_back}
-use Rattle.wire_rules.specs.Names.{name_of, kept_name, same_bytes}
+use Rattle.wire_rules.specs.Names.{name_of, kept_name}
 use Rattle.wire_rules.proofs.Names.{name_taken}
-
--- ---- compared
-
--- a digit and what stands above it: two comparisons are one
-pair_same : (a b a' b' : ℕ) → a < 256 → a' < 256 → (rest : Bool)
-    → choose (eqb a a') (choose (eqb b b') rest false) false ≡ choose (eqb (a + b * 256) (a' + b' * 256)) rest false
-pair_same a b a' b' l l' rest =
-    by_test (λ t. choose (eqb a a') (choose (eqb b b') rest false) false ≡ choose t rest false) (eqb (a + b * 256) (a' + b' * 256))
-    (λ t.
-    let e = eqb-true (a + b * 256) (a' + b' * 256) t in
-    rw (eq-eqb a a' (omega arith), eq-eqb b b' (omega arith)))
-    (λ t.
-    by_test (λ s. choose s (choose (eqb b b') rest false) false ≡ false) (eqb a a')
-    (λ s. rw (ne_eqb b b' (λ r. eqb-false (a + b * 256) (a' + b' * 256) t (rw (eqb-true a a' s, r))))) (λ s. refl))
-
--- n bytes at a time, as numbers
-same_words : (m d : List ℕ) → ((j : ℕ) → byte m j < 256) → ((j : ℕ) → byte d j < 256) → (n i : ℕ) → i + n ≤ length m → i + n ≤ length d
-    → same_bytes (drop i m) (drop i d) ≡ choose (eqb (little n m i) (little n d i)) (same_bytes (drop (i + n) m) (drop (i + n) d)) false
-unfolding little same_bytes
-same_words m d bm bd zero i h k = rw (add-zero i)
-same_words m d bm bd (suc n) i h k =
-    rw (drop-cons m i 0 (omega arith), drop-cons d i 0 (omega arith))
-    (ap (λ (b : Bool). choose (eqb (byte m i) (byte d i)) b false) (same_words m d bm bd n (suc i) (omega arith) (omega arith))
-    ∙ pair_same (byte m i) (little n m (suc i)) (byte d i) (little n d (suc i)) (bm i) (bd i) (same_bytes (drop (suc i + n) m) (drop (suc i + n) d))
-    ∙ rw (add-suc i n, suc-add i n))
-
--- a field's two words
-module _ (m d : List ℕ) (h : (length m ≡ 16) × (length d ≡ 16)) (bm : (j : ℕ) → byte m j < 256) (bd : (j : ℕ) → byte d j < 256)
-    (x y : ℕ) (p : x ≡ little 8 m 0) (q : y ≡ little 8 d 0) where
-  pub words_differ : (x ≡ y → ⊥) → eqb x y ≡ same_bytes m d
-  words_differ z = rw (same_words m d bm bd 8 0 (omega (arith, h.0)) (omega (arith, h.1)), ← p, ← q, ne_eqb x y z)
-
-  pub words_same : x ≡ y → (v w : ℕ) → v ≡ little 8 m 8 → w ≡ little 8 d 8 → eqb v w ≡ same_bytes m d
-  unfolding same_bytes
-  words_same e v w r s =
-      rw (
-        same_words m d bm bd 8 0 (omega (arith, h.0)) (omega (arith, h.1)),
-        ← p,
-        ← q,
-        eq-eqb x y e,
-        same_words m d bm bd 8 8 (omega (arith, h.0)) (omega (arith, h.1)),
-        ← r,
-        ← s,
-        drop_of_length-le m {i = 16} (omega (arith, h.0)),
-        drop_of_length-le d {i = 16} (omega (arith, h.1)),
-      )
-      (by_test (λ b. b ≡ choose b true false) (eqb v w) (λ t. refl) (λ t. refl))
 
 -- ---- kept
 

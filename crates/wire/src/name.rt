@@ -49,8 +49,8 @@ fn lowest(w: u64, k: usize) -> u64
 // The name of `k` characters with zeros after it, into the bytes that are lent, as two words: a copy of so many bytes would cost a
 // loop. The second word of a short name is zero. Both are read before one is stored, since nothing tells the compiler that the slices
 // are apart.
-pub fn keep(n: &[u8], k: usize, out: &mut [u8])
-    requires n_len { (length n.now ≡ 16) × (length out.old ≡ 16) }
+pub fn keep(n: &[u8; 16], k: usize, out: &mut [u8])
+    requires out_len { length out.old ≡ 16 }
     requires k_value { k ≡ length (name_of n.now) }
     ensures { out.new ≡ kept_name n.now }
 {
@@ -65,8 +65,7 @@ pub fn keep(n: &[u8], k: usize, out: &mut [u8])
     words::put8(&mut out[8..16], second);
 }
 
-pub fn kept(n: &[u8]) -> [u8; 16]
-    requires { length n.now ≡ 16 }
+pub fn kept(n: &[u8; 16]) -> [u8; 16]
     ensures { result ≡ kept_name n.now }
 {
     let mut name = [0u8; 16];
@@ -90,9 +89,8 @@ pub fn same(m: &[u8], n: &[u8]) -> bool
 }
 
 // Whether two fields hold the same bytes.
-pub fn equal(m: &[u8], n: &[u8]) -> bool
-    requires { (length m.now ≡ 16) × (length n.now ≡ 16) }
+pub fn equal(m: &[u8; 16], n: &[u8; 16]) -> bool
     ensures { result ≡ same_bytes m.now n.now }
 {
-    words::get8(m, 0) == words::get8(n, 0) && words::get8(m, 8) == words::get8(n, 8)
+    m == n
 }

@@ -10,6 +10,14 @@ use answers::Made;
 use formats::Format;
 use wire_rules::{DATA_MOST, HEADER, Header, Written};
 
+// A name's 16 bytes, and how many characters it has.
+#[derive(Clone, Copy)]
+pub struct Measured<'a> {
+    pub field: &'a [u8; 16],
+    pub characters: usize,
+    ghost counted: { characters ≡ length (name_of field.now) },
+}
+
 // Whether a packet can't have the numbers of a header, whatever its name.
 fn has_bad_numbers(h: Header) -> bool
     ensures { result ≡ bad_numbers h }
@@ -21,7 +29,7 @@ fn has_bad_numbers(h: Header) -> bool
 }
 
 // Row 20. A good form has a good name, which is measured once for the checks and the writing: this gives how many characters it has.
-pub fn check_form(name: &[u8], h: Header) -> Result<usize, Made>
+pub fn check_form(name: &[u8; 16], h: Header) -> Result<usize, Made>
     requires { name.now ≡ h.name }
     ensures { result ≡ passing (length (name_of h.name)) (form_rows h) }
 {
@@ -32,7 +40,7 @@ pub fn check_form(name: &[u8], h: Header) -> Result<usize, Made>
 }
 
 // Rows 20 to 23, by the bytes of data given and the room for the packet. After row 22 what is given is small, so the sum fits.
-fn check(name: &[u8], h: Header, given: usize, room: usize) -> Result<usize, Made>
+fn check(name: &[u8; 16], h: Header, given: usize, room: usize) -> Result<usize, Made>
     requires { name.now ≡ h.name }
     ensures { result ≡ passing (length (name_of h.name)) (write_rows h given room) }
 {
@@ -50,24 +58,20 @@ fn check(name: &[u8], h: Header, given: usize, room: usize) -> Result<usize, Mad
     Ok(named)
 }
 
-// The 28 bytes, of the raw bytes 4 to 7, a name of `named` characters and a counter.
-pub fn lead(b4: u8, b5: u8, b6: u8, b7: u8, name: &[u8], named: usize, counter: u32, out: &mut [u8])
-    requires name_len { length name.now ≡ 16 }
-    requires named_value { named ≡ length (name_of name.now) }
+// The 28 bytes, of the raw bytes 4 to 7, a name and a counter.
+pub fn lead(b4: u8, b5: u8, b6: u8, b7: u8, name: Measured, counter: u32, out: &mut [u8])
     requires out_len { length out.old ≡ header_size }
-    ensures { out.new ≡ lead_of b4 b5 b6 b7 name.now counter }
+    ensures { out.new ≡ lead_of b4 b5 b6 b7 name.entry.field.now counter }
 {
     let mark = [0x56u8, 0x42, 0x41, 0x4e, b4, b5, b6, b7];
     words::place(&mark, out, 0);
-    wire::name::keep(name, named, &mut out[8..24]);
+    wire::name::keep(name.field, name.characters, &mut out[8..24]);
     words::put::<4>(&mut out[24..28], counter);
 }
 
-// The 28 bytes of a header: audio, PCM, the reserved bit zero. Its name comes as a slice beside it: one copied out of a struct
-// costs much.
-pub fn header(name: &[u8], named: usize, h: Header, out: &mut [u8])
-    requires name_value { name.now ≡ h.name }
-    requires named_value { named ≡ length (name_of name.now) }
+// The 28 bytes of a header: audio, PCM, the reserved bit zero. Its name comes beside it, lent: one copied out of a struct costs much.
+pub fn header(name: Measured, h: Header, out: &mut [u8])
+    requires name_value { name.field.now ≡ h.name }
     requires good_form { GoodForm h }
     requires out_len { length out.old ≡ header_size }
     ensures { out.new ≡ header_bytes h }
@@ -76,18 +80,17 @@ pub fn header(name: &[u8], named: usize, h: Header, out: &mut [u8])
     let b5 = (h.frames - 1) as u8;
     let b6 = (h.channels - 1) as u8;
     let b7 = wire::bits::join_seven(h.format, 0, 0);
-    lead(b4, b5, b6, b7, name, named, h.counter, out);
+    lead(b4, b5, b6, b7, name, h.counter, out);
 }
 
 // A packet of good form, where there is room.
-fn emit(name: &[u8], named: usize, h: Header, samples: &[u8], out: &mut [u8])
-    requires name_value { name.now ≡ h.name }
-    requires named_value { named ≡ length (name_of name.now) }
+fn emit(name: Measured, h: Header, samples: &[u8], out: &mut [u8])
+    requires name_value { name.field.now ≡ h.name }
     requires good_form { GoodForm h }
     requires samples_in_bounds { header_size + length samples.now ≤ length out.old }
     ensures { out.new ≡ put out.old 0 (packet_of h samples.now) }
 {
-    header(name, named, h, &mut out[0..HEADER]);
+    header(name, h, &mut out[0..HEADER]);
     words::place(samples, out, HEADER);
 }
 
@@ -98,8 +101,12 @@ pub fn write(h: Header, samples: &[u8], out: &mut [u8]) -> Written
 {
     let name = h.name;
     match check(&name, h, samples.len(), out.len()) {
-        Ok(named) => {
-            emit(&name, named, h, samples, out);
+        Ok(characters) => {
+            let named = Measured {
+                field: &name,
+                characters,
+            };
+            emit(named, h, samples, out);
             Written {
                 answer: Made::Done,
                 length: HEADER + samples.len(),

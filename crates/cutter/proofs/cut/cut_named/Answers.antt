@@ -74,13 +74,17 @@ module _ (h : Header) (track : List ℕ) (k : ℕ) (out : List ℕ) (n : ℕ) wh
         w ∙ rw (is_packet, f) (sym (done_output h track k out Done done refl)),
       )
 
+pub invariant_of-named : goal.invariant_of-named
+invariant_of-named c =
+    let e = sym c.in-Ok.is ∙ c.check.ensures in
+    record { counted = rw c.requires (name_length c.args.h c.args.track.now c.args.k c.args.out.now _ _ e) }
+
 pub emit-requires : goal.emit-requires
 emit-requires c =
     let sixteen : length c.args.h.name ≡ 16 = search rules in
     let e = sym c.in-Ok.is ∙ c.check.ensures in
     record {
       name_value = search packet_named;
-      named_value = rw c.requires (name_length c.args.h c.args.track.now c.args.k c.args.out.now _ _ e);
       good_form = good_form c.args.h c.args.track.now c.args.k c.args.out.now _ _ e _ c.held.ensures _ c.packet_header-hk.ensures _ c.from-from.ensures sixteen;
       channels_bound = in_range c.args.h c.args.track.now c.args.k c.args.out.now _ _ e _ c.held.ensures _ c.packet_header-hk.ensures _ c.from-from.ensures sixteen;
     }

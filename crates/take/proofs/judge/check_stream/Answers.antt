@@ -9,4 +9,5 @@ returns-in_err-check_name c =
     let p = err_from_is_err_and r.result r.ensures.1 in
     let a = c.args in
     rw (p.1, p.2)
-    (name_refused a.t a.address a.d.now _ _ _ c.requires c.bad_state.ensures c.if-bad_state.false c.in_ok-check_lead.ensures c.in_err-check_name.ensures)
+    (name_refused a.t a.address a.d.now _ _ _ c.requires c.bad_state.ensures c.if-bad_state.false c.in_ok-check_lead.ensures
+    (rw c.name_field.ensures at c.in_err-check_name.ensures))

@@ -1,12 +1,22 @@
--- Two words each.
-use Rattle.wire.proofs.Halves.{words_differ, words_same}
+-- The library's equality of slices is that of the rules.
+use mathlib.Core.Path.{◌≡◌, refl, ◌∙◌}
+use mathlib.Core.Bool.{false, ◌&&◌}
+use mathlib.Core.List.{List, [], ◌∷◌}
+use Prim.Native.Nat.{ℕ}
+use lib.Dec.{eqb}
+use Rattle.std.specs.Str.{bytes_eq}
+use Rattle.lists.specs.Tables.{choose}
+use Rattle.lists.proofs.Tables.{by_test}
+use Rattle.wire_rules.specs.Names.{same_bytes}
 use Rattle.wire.proofs.name.equal.Goals as goal
 
-pub returns-then-get8 : goal.returns-then-get8
-returns-then-get8 c =
-    words_same _ _ c.requires (λ j. (c.type_inv.m j).fits) (λ j. (c.type_inv.n j).fits) _ _ c.get8.ensures c.get8-2.ensures
-    c.if-get8.true _ _ c.get8-then-get8.ensures c.get8-then-get8-2.ensures
+byte_by_byte : (xs ys : List ℕ) → bytes_eq xs ys ≡ same_bytes xs ys
+unfolding same_bytes
+byte_by_byte [] [] = refl
+byte_by_byte [] (y ∷ ys) = refl
+byte_by_byte (x ∷ xs) [] = refl
+byte_by_byte (x ∷ xs) (y ∷ ys) =
+    rw (byte_by_byte xs ys) (by_test (λ b. (b && same_bytes xs ys) ≡ choose b (same_bytes xs ys) false) (eqb x y) (λ t. refl) (λ t. refl))
 
-pub returns-else-get8 : goal.returns-else-get8
-returns-else-get8 c =
-    words_differ _ _ c.requires (λ j. (c.type_inv.m j).fits) (λ j. (c.type_inv.n j).fits) _ _ c.get8.ensures c.get8-2.ensures c.if-get8.false
+pub returns : goal.returns
+returns c = c.eq.ensures ∙ byte_by_byte c.args.m.now c.args.n.now

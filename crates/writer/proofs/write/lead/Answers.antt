@@ -2,7 +2,6 @@
 use mathlib.Core.Path.{◌≡◌, sym, ap, ◌∙◌}
 use mathlib.Core.List.{List, [], ◌∷◌, ◌++◌}
 use Prim.Native.Nat.{ℕ}
-use native.Mathlib.Nat.{le_of_eq}
 use lib.ListN.{length, length-append}
 use borrow.Author.Rules.{rules}
 use Rattle.lists.specs.Lists.{put}
@@ -12,16 +11,14 @@ use Rattle.wire_rules.specs.Names.{kept_name}
 use Rattle.lists.specs.Little.{bytes_of}
 use Rattle.lists.proofs.Little.{bytes_length}
 use Rattle.wire_rules.specs.Write.{lead_of}
-use Rattle.wire_rules.proofs.Names.{kept_length}
 use Rattle.writer.proofs.write.lead.Goals as goal
 
 assembled : (b4 b5 b6 b7 counter : ℕ) (name out o₁ kept count : List ℕ)
     → o₁ ≡ put out 0 (0x56 ∷ 0x42 ∷ 0x41 ∷ 0x4E ∷ b4 ∷ b5 ∷ b6 ∷ b7 ∷ []) → kept ≡ kept_name name
-    → count ≡ bytes_of 4 counter → length name ≡ 16 → length out ≡ 28 → put_mid 24 4 (put_mid 8 16 o₁ kept) count ≡ lead_of b4 b5 b6 b7 name counter
+    → count ≡ bytes_of 4 counter → length kept ≡ 16 → length out ≡ 28 → put_mid 24 4 (put_mid 8 16 o₁ kept) count ≡ lead_of b4 b5 b6 b7 name counter
 unfolding lead_of
-assembled b4 b5 b6 b7 counter name out o₁ kept count p₁ k f n w =
+assembled b4 b5 b6 b7 counter name out o₁ kept count p₁ k f l w =
     let mark : List ℕ = 0x56 ∷ 0x42 ∷ 0x41 ∷ 0x4E ∷ b4 ∷ b5 ∷ b6 ∷ b7 ∷ [] in
-    let l : length kept ≡ 16 = ap length k ∙ kept_length name (le_of_eq n) in
     let lead : length (mark ++ kept) ≡ 24 = length-append mark kept ∙ rw l in
     let whole : length (mark ++ kept ++ bytes_of 4 counter) ≡ 28 = length-append (mark ++ kept) (bytes_of 4 counter) ∙ rw (lead, bytes_length 4 counter) in
     let c : length count ≡ 4 = ap length f ∙ bytes_length 4 counter in
@@ -37,4 +34,6 @@ assembled b4 b5 b6 b7 counter name out o₁ kept count p₁ k f n w =
     )
 
 pub returns : goal.returns
-returns c = search (assembled, rules) depth 6 fits 6000
+returns c =
+    let a = c.args in
+    assembled a.b4 a.b5 a.b6 a.b7 a.counter a.name.field.now a.out.now _ _ _ c.place.ensures c.keep.ensures c.put.ensures (search rules) c.requires.out_len
