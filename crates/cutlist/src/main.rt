@@ -2,7 +2,7 @@
 #![tactic(auto)]
 
 use answers::{Answer, Made};
-use arrayvec::ArrayString;
+use arrayvec::ArrayVec;
 use capture::{BLOCK, RECORDS, TRACK};
 use capture_rules::RECORD;
 use files::{Output, Said};
@@ -90,9 +90,9 @@ fn cut_all(rt: &HostRuntime) -> Result<(), Stop> {
 
 // The number of a refusal alone.
 fn print_number(rt: &HostRuntime, answer: Made) {
-    let mut text = ArrayString::<21>::new();
-    lines::field(u64::from(u8::from(answer)), '\n', &mut text);
-    files::print(rt, text.as_str().as_bytes());
+    let mut text = ArrayVec::<u8, 21>::new();
+    lines::field(u64::from(u8::from(answer)), b'\n', &mut text);
+    files::print(rt, text.as_slice());
 }
 
 fn main(rt: HostRuntime) {

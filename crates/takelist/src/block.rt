@@ -1,12 +1,12 @@
 // A block of whole records, and their lines.
 ghost use Rattle.std.specs.Prelude.{◌≡◌, ◌+◌, ◌*◌, ◌^◌, ◌≤◌, ◌<◌, ◌++◌};
-ghost use Rattle.arrayvec.specs.ArrayString.{array_string_len};
+ghost use Rattle.arrayvec.specs.ArrayVec.{array_vec_len};
 ghost use Rattle.take_rules.specs.Box.{tells_of, follows};
 ghost use Rattle.capture_rules.specs.Fold.{event_of, answers_in, whole_records, captured};
 ghost use Rattle.lines.specs.Lines.{line_room};
 ghost use Rattle.takelist.specs.Block.{box_of, answer_line, lines_of};
 
-use arrayvec::ArrayString;
+use arrayvec::ArrayVec;
 use capture_rules::RECORD;
 use take_rules::{Take, Tally};
 
@@ -23,13 +23,13 @@ impl Follower {
         &mut self,
         index: u64,
         heard: &[u8; RECORD],
-        lines: &mut ArrayString<CAP>,
+        lines: &mut ArrayVec<u8, CAP>,
         track: &mut [u8],
     )
-        requires { array_string_len lines.old + line_room ≤ CAP }
+        requires { array_vec_len lines.old + line_room ≤ CAP }
         ensures state { box_of self.new track.new ≡ follows (box_of self.old track.old) (event_of heard.now) }
-        ensures text { lines.new.bytes ≡ lines.old.bytes ++ answer_line index (tells_of (box_of self.old track.old) (event_of heard.now)) }
-        ensures within { array_string_len lines.new ≤ array_string_len lines.old + line_room }
+        ensures text { lines.new.items ≡ lines.old.items ++ answer_line index (tells_of (box_of self.old track.old) (event_of heard.now)) }
+        ensures within { array_vec_len lines.new ≤ array_vec_len lines.old + line_room }
     {
         let followed = capture::follow(self.take, &mut self.tally, heard, track);
         self.take = followed.take;
@@ -49,13 +49,13 @@ impl Follower {
         &mut self,
         index: u64,
         block: &[u8],
-        lines: &mut ArrayString<CAP>,
+        lines: &mut ArrayVec<u8, CAP>,
         track: &mut [u8],
     )
         requires index { index < 2 ^ 63 }
-        requires room { array_string_len lines.old + whole_records block.now * line_room ≤ CAP }
+        requires room { array_vec_len lines.old + whole_records block.now * line_room ≤ CAP }
         ensures state { box_of self.new track.new ≡ captured (box_of self.old track.old) block.now }
-        ensures text { lines.new.bytes ≡ lines.old.bytes ++ lines_of index (answers_in (box_of self.old track.old) block.now (whole_records block.now)) }
+        ensures text { lines.new.items ≡ lines.old.items ++ lines_of index (answers_in (box_of self.old track.old) block.now (whole_records block.now)) }
     {
         let (records, _) = block.as_chunks::<RECORD>();
         for (i, heard) in records.iter().enumerate() {

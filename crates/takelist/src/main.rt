@@ -4,7 +4,7 @@
 ghost use Rattle.std.specs.Prelude.{◌^◌, ◌≤◌, ◌<◌};
 
 use answers::Answer;
-use arrayvec::ArrayString;
+use arrayvec::ArrayVec;
 use block::Follower;
 use capture::{BLOCK, RECORDS, TRACK};
 use capture_rules::RECORD;
@@ -20,10 +20,10 @@ fn follow_some(rt: &HostRuntime, follower: &mut Follower, index: u64, track: &mu
     requires { index < 2 ^ 63 }
 {
     let mut bytes = [0u8; BLOCK];
-    let mut lines = ArrayString::<LINES>::new();
+    let mut lines = ArrayVec::<u8, LINES>::new();
     let n = files::input(rt, &mut bytes);
     follower.block(index, &bytes[..n], &mut lines, track);
-    files::print(rt, lines.as_str().as_bytes());
+    files::print(rt, lines.as_slice());
     if n % RECORD != 0 {
         files::print(rt, b"cut\n");
     }

@@ -4,8 +4,8 @@ use Rattle.std.proofs.lemmas.Fmt.{length-decimal-le}
 use Rattle.lines.proofs.Lines.{decimal_same}
 use Rattle.lines.proofs.number.Goals as goal
 
-pub push_str-requires : goal.push_str-requires
-push_str-requires g c = search (rules, length-decimal-le 20)
+pub unwrap-requires : goal.unwrap-requires
+unwrap-requires g c = search (rules, length-decimal-le 20)
 
 pub returns-clause-text : goal.returns-clause-text
 returns-clause-text g c = search (rules, decimal_same)
