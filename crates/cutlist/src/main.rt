@@ -34,7 +34,7 @@ struct Job {
 
 fn load(rt: &HostRuntime) -> Option<Job> {
     let mut bytes = [0u8; 33];
-    let n = files::load(rt, b"cut.bin", &mut bytes).ok()?;
+    let n = files::load(rt, b"cut.bin", &mut bytes);
     let job = bytes[..n].as_array::<32>()?;
     let read = capture::jobs::header(job);
     if read.answer != Answer::Accepted {

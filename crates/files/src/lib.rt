@@ -35,6 +35,10 @@ fn path_text(path: &[u8]) -> Result<&str> {
     }
 }
 
+fn open<R: Files>(rt: &R, path: &[u8]) -> Result<R::File> {
+    fs::open(rt, path_text(path)?)
+}
+
 fn create<R: Files>(rt: &R, path: &[u8]) -> Result<R::File> {
     fs::create(rt, path_text(path)?)
 }
@@ -66,12 +70,14 @@ fn fill<S: Read>(source: &mut S, out: &mut [u8]) -> usize
     done
 }
 
-// The bytes of a file, as many as fit.
-pub fn load<R: Files>(rt: &R, path: &[u8], out: &mut [u8]) -> Result<usize>
-    ensures { IfOk result (λ n. IsPrefixLen n out.new) }
+// The bytes of a file, as many as fit; none where it can't be read.
+pub fn load<R: Files>(rt: &R, path: &[u8], out: &mut [u8]) -> usize
+    ensures { IsPrefixLen result out.new }
 {
-    let mut file = fs::open(rt, path_text(path)?)?;
-    Ok(fill(&mut file, out))
+    match open(rt, path) {
+        Ok(mut file) => fill(&mut file, out),
+        Err(_) => 0,
+    }
 }
 
 // Standard input, until `out` is full or no more comes.

@@ -51,7 +51,7 @@ fn write_track(rt: &HostRuntime, track: &[u8]) {
 // What `wanted.bin` names, on a lent track; none where no stream can be meant.
 fn wanted(rt: &HostRuntime, track: &mut [u8]) -> Option<Follower> {
     let mut bytes = [0u8; 21];
-    let n = files::load(rt, b"wanted.bin", &mut bytes).ok()?;
+    let n = files::load(rt, b"wanted.bin", &mut bytes);
     let job = bytes[..n].as_array::<20>()?;
     let opened = capture::jobs::open(job, track);
     if opened.answer != Answer::Accepted {
