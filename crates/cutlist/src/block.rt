@@ -1,5 +1,5 @@
 // A block of records.
-ghost use Rattle.std.specs.Prelude.{◌≡◌, ◌^◌, ◌<◌};
+ghost use Rattle.std.specs.Prelude.{◌≡◌, ◌+◌, ◌^◌, ◌<◌};
 ghost use Rattle.cutlist.specs.Block.{Filled};
 
 use answers::Made;
@@ -21,4 +21,21 @@ pub fn fill(header: Header, track: &[u8], k: u32, address: u32, block: &mut [u8;
         }
     }
     RECORDS
+}
+
+// The same, after which `k` is the packet that follows them.
+pub fn next(
+    header: Header,
+    track: &[u8],
+    k: &mut u32,
+    address: u32,
+    block: &mut [u8; BLOCK],
+) -> usize
+    requires { k.old < 2 ^ 31 }
+    ensures block { Filled header track.now address k.old 44 block.old block.new result }
+    ensures k { k.new ≡ k.old + result }
+{
+    let n = fill(header, track, *k, address, block);
+    *k += n as u32;
+    n
 }

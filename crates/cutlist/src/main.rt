@@ -54,8 +54,9 @@ fn write_packets(
     file: &mut Output<'_, File>,
 ) -> Result<(), Said> {
     let mut block = [0u8; BLOCK];
-    for k in (0..2048).step_by(RECORDS) {
-        let n = block::fill(job.header, track, k, job.address, &mut block);
+    let mut k = 0;
+    while k < 2048 {
+        let n = block::next(job.header, track, &mut k, job.address, &mut block);
         file.append(rt, &block[..n * RECORD])?;
         if n < RECORDS {
             break;

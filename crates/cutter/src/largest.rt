@@ -19,8 +19,15 @@ fn frames(format: u8, channels: u16) -> u16
     ensures { result ≡ largest_frames format channels }
 {
     let bytes = frame_bytes(format, channels);
-    let n = wire_rules::DATA_MOST.checked_div(bytes).unwrap_or(0);
-    n.min(256) as u16
+    if bytes == 0 {
+        return 0;
+    }
+    let n = wire_rules::DATA_MOST / bytes;
+    // As a test and not by `min`: the compiler then divides only where it has to.
+    if n > 256 {
+        return 256;
+    }
+    n as u16
 }
 
 // Whether so many frames, of a form that a packet can have, are over the largest N: a product in place of a division.

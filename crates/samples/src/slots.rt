@@ -132,8 +132,9 @@ impl Sample for Signed24 {
 
     const SIZE: usize = 3;
 
+    // Each byte by itself: the compiler joins them with those of the samples beside it.
     fn get(d: &[u8], a: usize) -> u32 {
-        words::get::<3>(d, a)
+        u32::from_le_bytes([d[a], d[a + 1], d[a + 2], 0])
     }
 
     fn put(out: &mut [u8], u: u32) {

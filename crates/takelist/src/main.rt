@@ -1,7 +1,8 @@
 // Follows the stream that `wanted.bin` names through the capture on standard input, and writes its track to `track.bin`.
 #![tactic(auto)]
 
-ghost use Rattle.std.specs.Prelude.{◌^◌, ◌≤◌, ◌<◌};
+ghost use Rattle.std.specs.Prelude.{◌≡◌, ◌+◌, ◌/◌, ◌^◌, ◌≤◌, ◌<◌};
+ghost use Rattle.capture_rules.specs.Records.{record_size};
 
 use answers::Answer;
 use arrayvec::ArrayVec;
@@ -15,25 +16,33 @@ mod block;
 // Room for the lines of a block.
 const LINES: usize = RECORDS * lines::ROOM;
 
-// One block: as many records as came, and their lines; how many bytes came.
-fn follow_some(rt: &HostRuntime, follower: &mut Follower, index: u64, track: &mut [u8]) -> usize
-    requires { index < 2 ^ 63 }
+// One block: as many records as came, and their lines; how many bytes came. The index goes on to the record after them.
+fn follow_some(
+    rt: &HostRuntime,
+    follower: &mut Follower,
+    index: &mut u64,
+    track: &mut [u8],
+) -> usize
+    requires { index.old < 2 ^ 63 }
+    ensures { (result ≤ 64768) × (index.new ≡ index.old + result / record_size) }
 {
     let mut bytes = [0u8; BLOCK];
     let mut lines = ArrayVec::<u8, LINES>::new();
     let n = files::input(rt, &mut bytes);
-    follower.block(index, &bytes[..n], &mut lines, track);
+    follower.block(*index, &bytes[..n], &mut lines, track);
     files::print(rt, lines.as_slice());
     if n % RECORD != 0 {
         files::print(rt, b"cut\n");
     }
+    *index += (n / RECORD) as u64;
     n
 }
 
 // The whole capture. No capture has 2^63 records, but a proved loop has to end.
 fn follow_all(rt: &HostRuntime, follower: &mut Follower, track: &mut [u8]) {
-    for index in (0..1 << 63).step_by(RECORDS) {
-        if follow_some(rt, follower, index, track) < BLOCK {
+    let mut index = 0;
+    while index < 1 << 63 {
+        if follow_some(rt, follower, &mut index, track) < BLOCK {
             break;
         }
     }
