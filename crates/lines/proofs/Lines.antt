@@ -1,15 +1,16 @@
 -- Laws of decimal numbers, and of texts written one after the other.
-use mathlib.Core.Path.{◌≡◌, ◌∙◌}
+use mathlib.Core.Path.{◌≡◌, refl, sym, ◌∙◌}
 use mathlib.Core.List.{List, [], ◌∷◌, ◌++◌, append_assoc}
 use Prim.Native.Nat.{ℕ, zero, suc, ◌+◌, ◌-◌, ◌/◌, ◌%◌, ◌^◌, ◌<◌, ◌≤◌}
 use native.Mathlib.Nat.{pow-le-pow_right, le_antisymm}
 use native.Mathlib.Numerals.{sub-one}
 use native.Mathlib.Omega.{arith}
 use native.Mathlib.Decide.{dec_lt}
+use lib.ListN.{length, length-append}
 use borrow.Author.Tests.{lt-ltb, le-ltb}
 use Rattle.std.specs.Fmt.{decimal}
 use Rattle.std.proofs.lemmas.Fmt.{decimal_by_steps}
-use Rattle.io.specs.Digits.{hex_digit_ascii, IsDigitCount}
+use Rattle.io.specs.Digits.{hex_digit_ascii, last_digits, IsDigitCount}
 use Rattle.lines.specs.Lines.{places, places_of, decimal_of, field_of, line_of}
 
 -- ---- how many digits
@@ -41,6 +42,22 @@ places_fewest (suc k) n h = elim (dec_lt n (10 ^ suc k)) [
 -- the definition counts the fewest digits that hold the number
 pub decimal_fewest : (n : ℕ) → n < 10 ^ 20 → IsDigitCount 10 1 n (places_of n)
 decimal_fewest n h = places_fewest 19 n h
+
+digits_length : (b k n : ℕ) → length (last_digits b k n) ≡ k
+digits_length b zero n = refl
+digits_length b (suc k) n = length-append (last_digits b k (n / b)) _ ∙ rw (digits_length b k (n / b)) (omega arith)
+
+-- a number's text has so many digits
+pub decimal_length : (n : ℕ) → length (decimal_of n) ≡ places_of n
+unfolding decimal_of
+decimal_length n = digits_length 10 (places_of n) n
+
+-- the fewest digits that hold n are its text
+pub decimal_digits : (n k : ℕ) → n < 10 ^ 20 → IsDigitCount 10 1 n k → (last_digits 10 k n ≡ decimal_of n) × (k ≡ length (decimal_of n))
+unfolding decimal_of
+decimal_digits n k h f =
+    let e : k ≡ places_of n = fewest_one n k (places_of n) f (decimal_fewest n h) in
+    (rw e, e ∙ sym (decimal_length n))
 
 -- ---- std's text of a number is the same
 
