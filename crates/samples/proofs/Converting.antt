@@ -7,7 +7,7 @@ use lib.Signed.{mag}
 use mir.Syntax.{w64}
 use mir.Val.{SFits}
 use mir.Facts.{to_z-of_z}
-use borrow.Author.Tests.{not-false}
+use borrow.Author.Tests.{not-true, not-false}
 use Rattle.answers.specs.declared.Made.{Made}
 use Rattle.answers.specs.declared.Made.TheVariants.{Done, Form, Sample}
 use Rattle.formats.specs.declared.Integer.{Integer}
@@ -48,6 +48,13 @@ module _ (from to : ℕ) (n : ℤ) where
       pub is_converted : h ≡ true → (z : ℤ) → mag z < 2 ^ 63 → z ≡ converted f t (Long n) → record { answer = Done; value = Long z } ≡ convert_of from to n
       unfolding convert_of
       is_converted l z m w = rw (back z m, w, to_z-of_z s, e, g, p, q, sym (rw (to_z-of_z s) at eh) ∙ l)
+
+-- a number that its type does not have, by the tests themselves
+pub bad_number_is : (from to : ℕ) (n : ℤ) (b : Bool) (e : b ≡ may_convert from) (t : not b ≡ false) (c : Bool) (g : c ≡ may_convert to) (s : not c ≡ false)
+    (i j : Format) (f v : Integer) (pi : i ≡ format_of from) (pj : j ≡ format_of to) (p : i ≡ Whole f) (q : j ≡ Whole v) (s₀ : SFits w64 n)
+    (h : Bool) (eh : h ≡ has f (Long n)) (r : Converted) → not h ≡ true → r ≡ refusal Sample → r ≡ convert_of from to n
+bad_number_is from to n b e t c g s i j f v pi pj p q s₀ h eh r l w =
+    w ∙ bad_number from to n (sym e ∙ not-false b t) (sym g ∙ not-false c s) f v (sym pi ∙ p) (sym pj ∙ q) s₀ h eh (not-true h l)
 
 -- and what is given is the nearest
 pub meets : (from to : ℕ) (n : ℤ) (r : Converted) → r ≡ convert_of from to n

@@ -1,5 +1,5 @@
 -- What follow, lay and open put together, on plain values: a premise is what a callee ensures or a test says.
-use Rattle.std.proofs.Common.{◌≡◌, ℕ, ◌^◌, ◌<◌, Bool, true, false, List, length, sym, ◌∙◌, arith}
+use Rattle.std.proofs.Common.{◌≡◌, ℕ, ◌+◌, ◌*◌, ◌^◌, ◌<◌, Bool, true, false, List, length, sym, ◌∙◌, arith}
 use Rattle.std.specs.Prelude.{Ok, Err}
 use Rattle.lists.specs.Tables.{Row, checked}
 use Rattle.lists.proofs.Tables.{none_says}
@@ -12,11 +12,14 @@ use Rattle.wire_rules.specs.Names.{good_name, kept_name}
 use Rattle.wire_rules.specs.Header.{header_of}
 use Rattle.reader.specs.Unnamed.{unnamed}
 use Rattle.track_rules.specs.Records.{records_held, cleared_of}
+use Rattle.take_rules.specs.declared.Decision.{Decision}
+use Rattle.take_rules.specs.declared.Decision.TheVariants.{Ahead}
 use Rattle.take_rules.specs.declared.Take.{Take}
 use Rattle.take_rules.specs.declared.Followed.{Followed}
 use Rattle.take_rules.specs.declared.Tally.{Tally}
 use Rattle.take_rules.specs.Take.{unbegun_for, no_take, open_of, opened_track}
-use Rattle.take_rules.specs.Follow.{place_of, skipped_of, follow_rows, answer_of, followed_by, laid_by, followed_of, followed_track}
+use Rattle.take_rules.specs.Counter.{away}
+use Rattle.take_rules.specs.Follow.{decided, place_of, skipped_of, follow_rows, answer_of, followed_by, laid_by, followed_of, followed_track}
 use Rattle.take_rules.specs.Tally.{raised_of, tallied_of}
 use Rattle.take_rules.proofs.Exactly.{accepted_passed, refused_track, follow_track, follow_refused, follow_accepted}
 use Rattle.take.specs.Judging.{judged_by, refused_by, accepted_by, Asked}
@@ -54,7 +57,7 @@ module _ (t : Take) (address : ℕ) (d track : List ℕ) (held : ℕ) (eh : held
     passed : (Ok tt ≡ checked rows) × (h ≡ unnamed (header_of d))
     passed = ok_rows rows d h (rw eh at ej)
 
-    pass : answer_of t address d (records_held track) ≡ Accepted
+    pub pass : answer_of t address d (records_held track) ≡ Accepted
     unfolding answer_of
     pass = first_ok Accepted rows passed.0
 
@@ -77,6 +80,11 @@ module _ (t : Take) (address : ℕ) (d track : List ℕ) (held : ℕ) (eh : held
 
     pub accepted_laid : (after : List ℕ) → after ≡ laid_by h d (place_of t h) track → after ≡ followed_track t address d track
     accepted_laid after ea = ea ∙ rw passed.1 (sym (follow_track t address d track pass))
+
+-- a packet ahead lies at the newest place and N records more for each step of the counter
+pub ahead_place_is : (t : Take) (h : Header) (k : Decision) (e : k ≡ decided t h) (o : k ≡ Ahead) (d : ℕ) (q : d ≡ away 32 h.counter t.line.newest)
+    → t.line.place + d * t.line.n ≡ place_of t h
+ahead_place_is t h k e o d q = rw (sym e ∙ o, q)
 
 -- a packet that was laid at its place
 module _ (t : Take) (h : Header) (p : ℕ) (e : p ≡ place_of t h) where

@@ -1,7 +1,9 @@
 -- The tables of following, part by part as the code goes through them.
-use Rattle.std.proofs.Common.{◌≡◌, Bool, true, false, not, ℕ, List, [], ◌∷◌, ◌++◌, sym, refl, ap, ◌∙◌}
+use Rattle.std.proofs.Common.{◌≡◌, Bool, true, false, not, ◌&&◌, ℕ, List, [], ◌∷◌, ◌++◌, sym, refl, ap, ◌∙◌}
 use Rattle.std.specs.Prelude.{Result, Ok, Err}
+use borrow.Author.Tests.{not-false}
 use Rattle.lists.specs.Tables.{Row, row, any, unlike, checked}
+use Rattle.lists.proofs.Tables.{by_test, true_false}
 use Rattle.lists.proofs.Checked.{not_ok, goes}
 use Rattle.answers.specs.declared.Answer.{Answer}
 use Rattle.answers.specs.declared.Answer.TheVariants.{Name, OtherStream}
@@ -12,9 +14,24 @@ use Rattle.wire_rules.specs.Read.{lead_rows, name_rows}
 use Rattle.wire_rules.proofs.Names.{same_bytes_is, same_exactly}
 use Rattle.reader.specs.Unnamed.{unnamed}
 use Rattle.take_rules.specs.declared.Take.{Take}
-use Rattle.take_rules.specs.Take.{bad_state}
+use Rattle.take_rules.specs.Take.{bad_shape, bad_line, bad_state}
 use Rattle.take_rules.specs.Follow.{other_stream, stream_rows}
 use Rattle.take.specs.Judging.{named_rows, judged_for, judged_by}
+
+-- ---- the take's state
+
+-- a take whose state is good has a good name
+pub good_name_is : (t : Take) (address : ℕ) (d : List ℕ) (bad : Bool) (e : bad ≡ bad_state t) (good : bad ≡ false) → good_name t.who.name ≡ true
+good_name_is t address d bad e good =
+    by_test (λ b. any (not b ∷ (t.begun && any (bad_shape t.shape ∷ bad_line t.line ∷ [])) ∷ []) ≡ false → b ≡ true) (good_name t.who.name)
+    (λ q z. refl) (λ q z. absurd (true_false z)) (sym e ∙ good)
+
+-- a take that has begun with a bad shape has a bad state
+pub bad_shape_is : (t : Take) (name : List ℕ) (p : name ≡ t.who.name) (good : Bool) (e : good ≡ good_name name) (g : not good ≡ false)
+    (b : not t.begun ≡ false) (s : Bool) (q : s ≡ bad_shape t.shape) → s ≡ true → true ≡ bad_state t
+bad_shape_is t name p good e g b s q y =
+    let ours : good ≡ good_name t.who.name = e ∙ rw p in
+    rw (sym ours ∙ not-false good g, not-false t.begun b, sym q ∙ y)
 
 -- ---- row 4 and the name's part of row 5
 
