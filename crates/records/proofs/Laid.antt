@@ -32,6 +32,10 @@ module _ (f : Format) (d : List ℕ) (from channels : ℕ) where
   unfolding frame_slot
   silent c h = less_no _ _ _ _ _ h refl
 
+-- the slot by another place, which is the frame's
+pub placed : (f : Format) (d : List ℕ) (from channels c m r : ℕ) → r ≡ frame_slot f d m channels c → m ≡ from → r ≡ frame_slot f d from channels c
+placed f d from channels c m r p e = rw e at p
+
 -- eight slots as a record, whatever says which they are
 pub framed : (g : ℕ → ℕ) (out : List ℕ) (r0 r1 r2 r3 r4 r5 r6 r7 : ℕ) → out ≡ record_of (byte (r0 ∷ r1 ∷ r2 ∷ r3 ∷ r4 ∷ r5 ∷ r6 ∷ r7 ∷ []))
     → r0 ≡ g 0 → r1 ≡ g 1 → r2 ≡ g 2 → r3 ≡ g 3 → r4 ≡ g 4 → r5 ≡ g 5 → r6 ≡ g 6 → r7 ≡ g 7 → out ≡ record_of g
@@ -64,9 +68,10 @@ pub packet_next : (f : Format) (d : List ℕ) (from frames channels : ℕ) (trac
 unfolding packet_slot
 packet_next f d from frames channels track₀ place = lay_next (packet_slot f d from channels) frames track₀ place
 
--- by a size that is the type's
+-- by a size that is the type's, and by frame m, which is k
 pub packet_sized : (f : Format) (d : List ℕ) (from frames channels : ℕ) (track₀ : List ℕ) (place : ℕ) (track : List ℕ) (k : ℕ)
-    → Laying (packet_slot f d from channels) frames track₀ place track k → (ys : List ℕ) (size : ℕ) → k < frames
-    → ys ≡ record_of (frame_slot f d (from + k * (channels * size)) channels) → size ≡ size_of f
+    → Laying (packet_slot f d from channels) frames track₀ place track k → (ys : List ℕ) (size m : ℕ) → k < frames
+    → ys ≡ record_of (frame_slot f d (from + m * (channels * size)) channels) → size ≡ size_of f → m ≡ k
     → Laying (packet_slot f d from channels) frames track₀ place (put_mid ((place + k) * 24) ((place + k) * 24 + 24 - (place + k) * 24) track ys) (k + 1)
-packet_sized f d from frames channels track₀ place track k l ys size h p z = packet_next f d from frames channels track₀ place track k l ys h (rw z at p)
+packet_sized f d from frames channels track₀ place track k l ys size m h p z e =
+    packet_next f d from frames channels track₀ place track k l ys h (rw (e, z) at p)

@@ -18,6 +18,7 @@ fn characters(n: &[u8]) -> usize
 }
 
 // How many characters a good name has: a name is good if it has one, and a zero or the end comes after them.
+#[tactic(auto, using(crate::proofs::Measuring::ended, crate::proofs::Measuring::none_at_front, crate::proofs::Measuring::broken))]
 pub fn measure(n: &[u8]) -> Option<usize>
     ensures { result ≡ measured n.now }
 {

@@ -72,13 +72,15 @@ module _ (v : ℕ) where
       bytes_from 3 v 0 _ _ (omega arith) (bytes_from 2 v 1 _ _ refl (bytes_from 1 v 2 _ _ refl (bytes_from 0 v 3 _ _ refl (bytes_none _))))
       ∙ whole 4
 
-  pub bytes8 : to_le_bytes w64 v ≡ bytes_of 8 v
-  bytes8 =
-      bytes_from 7 v 0 _ _ (omega arith) (bytes_from 6 v 1 _ _ refl (bytes_from 5 v 2 _ _ refl (bytes_from 4 v 3 _ _ refl
+  -- of a number w that is v
+  pub bytes8 : (w : ℕ) → w ≡ v → to_le_bytes w64 w ≡ bytes_of 8 v
+  bytes8 w same =
+      ap (to_le_bytes w64) same
+      ∙ bytes_from 7 v 0 _ _ (omega arith) (bytes_from 6 v 1 _ _ refl (bytes_from 5 v 2 _ _ refl (bytes_from 4 v 3 _ _ refl
       (bytes_from 3 v 4 _ _ refl (bytes_from 2 v 5 _ _ refl (bytes_from 1 v 6 _ _ refl (bytes_from 0 v 7 _ _ refl (bytes_none _))))))))
       ∙ whole 8
 
-  pub first_bytes : (n : ℕ) → n ≤ 4 → take n (to_le_bytes w32 v) ≡ bytes_of n v
-  first_bytes n l =
+  pub first_bytes : (w n : ℕ) → w ≡ v → n ≤ 4 → take n (to_le_bytes w32 w) ≡ bytes_of n v
+  first_bytes w n same l =
       let e : 4 ≡ n + (4 - n) = omega arith in
-      ap (take n) (bytes4 ∙ ap (λ (k : ℕ). bytes_of k v) e ∙ bytes_split n (4 - n) v) ∙ take_at (bytes_of n v) _ n (bytes_length n v)
+      ap (take n) (ap (to_le_bytes w32) same ∙ bytes4 ∙ ap (λ (k : ℕ). bytes_of k v) e ∙ bytes_split n (4 - n) v) ∙ take_at (bytes_of n v) _ n (bytes_length n v)
