@@ -22,6 +22,9 @@ module _ (h : Header) (samples out : List ℕ) (n : ℕ) where
       (rw (r.0, r.1), rw (r.0, r.1))
 
   module _ (named : ℕ) (e : Ok named ≡ passing n rows) where
+    counted : named ≡ n
+    counted = (passes_done n rows named e).1
+
     formed : length h.name ≡ 16 → GoodForm h
     formed l = ((done_exactly h (le_of_eq l) (length samples) (length out)).0 (passes_done n rows named e).0).formed
 
@@ -31,6 +34,10 @@ module _ (h : Header) (samples out : List ℕ) (n : ℕ) where
     written o p =
         let d = (passes_done n rows named e).0 in
         (rw d, rw d p)
+
+pub invariant_of-named : goal.invariant_of-named
+invariant_of-named c =
+    record { counted = counted c.args.h c.args.samples.now c.args.out.now _ _ (sym c.in-Ok.is ∙ c.check.ensures) }
 
 pub emit-requires-clause-good_form : goal.emit-requires-clause-good_form
 emit-requires-clause-good_form c =
