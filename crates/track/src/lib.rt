@@ -17,12 +17,14 @@ pub fn held(track: &[u8]) -> usize
     track.len() / RECORD
 }
 
-// Clears all whole records, by one call that clears memory.
+// Clears all whole records. Byte by byte, which becomes one call that clears memory.
 pub fn clear(track: &mut [u8])
     ensures { track.new ≡ cleared_of track.old }
 {
     let end = track.len() / RECORD * RECORD;
-    track[..end].fill(0);
+    for i in 0..end {
+        track[i] = 0;
+    }
 }
 
 // Lays frames of a packet's data, which start at byte `from`, at a place of the track: each type by its own loops.
