@@ -132,9 +132,9 @@ impl Sample for Signed24 {
 
     const SIZE: usize = 3;
 
-    // Each byte by itself: the compiler joins them with those of the samples beside it.
+    // As a sum of bytes: read by `words::get`, 3 to 7 channels would be laid more slowly.
     fn get(d: &[u8], a: usize) -> u32 {
-        u32::from_le_bytes([d[a], d[a + 1], d[a + 2], 0])
+        u32::from(d[a]) + u32::from(d[a + 1]) * 256 + u32::from(d[a + 2]) * 65536
     }
 
     fn put(out: &mut [u8], u: u32) {
